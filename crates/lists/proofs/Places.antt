@@ -1,0 +1,60 @@
+-- Lists changed place by place, one turn of the loop at a time. Assumes nothing.
+use mathlib.Core.Path.{_≡_, refl, sym, ap, _∙_}
+use mathlib.Core.List.{List, [], _∷_}
+use Prim.Native.Nat.{ℕ, zero, suc, _+_, _<_, _≤_}
+use native.Mathlib.Nat.{le-of-suc-le-suc, not-suc-le-zero}
+use native.Mathlib.Numerals.{add-one}
+use native.Mathlib.Omega.{arith}
+use lib.ListN.{length, getD, set, take, drop, length-drop}
+use lib.Seq.{getD-take, getD-drop, length-take-le, take-suc}
+use Rattle.lists.specs.Places.{front, fill, part}
+
+-- FRONT: a loop that changes each element in turn
+module _ {A : Type 0} (f : A → A) where
+  pub front-length : (i : ℕ) (l : List A) → length (front f i l) ≡ length l
+  front-length zero l = refl
+  front-length (suc i) [] = refl
+  front-length (suc i) (x ∷ l) = ap suc (front-length i l)
+
+  front-get : (i : ℕ) (l : List A) (d : A) → getD (front f i l) i d ≡ getD l i d
+  front-get zero l d = refl
+  front-get (suc i) [] d = refl
+  front-get (suc i) (x ∷ l) d = front-get i l d
+
+  front-suc : (i : ℕ) (l : List A) (d : A) → i < length l → set (front f i l) i (f (getD l i d)) ≡ front f (suc i) l
+  front-suc zero [] d h = absurd (not-suc-le-zero h)
+  front-suc (suc i) [] d h = absurd (not-suc-le-zero h)
+  front-suc zero (x ∷ l) d h = refl
+  front-suc (suc i) (x ∷ l) d h = ap (λ z. f x ∷ z) (front-suc i l d (le-of-suc-le-suc h))
+
+  pub front-turn : (i : ℕ) (l : List A) (d : A) → i < length l → set (front f i l) i (f (getD (front f i l) i d)) ≡ front f (i + 1) l
+  front-turn i l d h = rw (add-one i, front-get i l d) (front-suc i l d h)
+
+-- FILL: a loop that writes each place anew from another list
+module _ {A B : Type 0} (f : A → B) where
+  pub fill-length : (i : ℕ) (l : List A) (z : List B) → length (fill f i l z) ≡ length z
+  fill-length zero l z = refl
+  fill-length (suc i) [] z = refl
+  fill-length (suc i) (x ∷ l) [] = refl
+  fill-length (suc i) (x ∷ l) (y ∷ z) = ap suc (fill-length i l z)
+
+  fill-suc : (i : ℕ) (l : List A) (z : List B) (d : A) → i < length l → i < length z → set (fill f i l z) i (f (getD l i d)) ≡ fill f (suc i) l z
+  fill-suc zero [] z d h g = absurd (not-suc-le-zero h)
+  fill-suc zero (x ∷ l) [] d h g = absurd (not-suc-le-zero g)
+  fill-suc zero (x ∷ l) (y ∷ z) d h g = refl
+  fill-suc (suc i) [] z d h g = absurd (not-suc-le-zero h)
+  fill-suc (suc i) (x ∷ l) [] d h g = absurd (not-suc-le-zero g)
+  fill-suc (suc i) (x ∷ l) (y ∷ z) d h g = ap (λ r. f x ∷ r) (fill-suc i l z d (le-of-suc-le-suc h) (le-of-suc-le-suc g))
+
+  pub fill-turn : (i : ℕ) (l : List A) (z : List B) (d : A) → i < length l → i < length z → set (fill f i l z) i (f (getD l i d)) ≡ fill f (i + 1) l z
+  fill-turn i l z d h g = rw (add-one i) (fill-suc i l z d h g)
+
+-- PART: elements from a place on
+module _ {A : Type 0} where
+  pub part-length : (l : List A) (at n : ℕ) → at + n ≤ length l → length (part l at n) ≡ n
+  unfolding part
+  part-length l at n h = length-take-le n (drop at l) (omega (arith, length-drop at l))
+
+  pub part-at : (l : List A) (at n i : ℕ) (d : A) → i < n → getD (part l at n) i d ≡ getD l (at + i) d
+  unfolding part
+  part-at l at n i d h = getD-take n (drop at l) i d h ∙ getD-drop at l i d
