@@ -1,6 +1,7 @@
 // Test data sections of DVB A046, read and written (document 01, "Test data sections").
 mod descriptors;
 mod reader;
+mod writer;
 
 pub use descriptors::descriptor_at;
 pub use reader::read;
