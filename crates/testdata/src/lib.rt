@@ -5,6 +5,7 @@ mod writer;
 
 pub use descriptors::descriptor_at;
 pub use reader::read;
+pub use writer::write;
 
 // A part of the bytes that were handed in: its place and its length.
 pub struct Part {

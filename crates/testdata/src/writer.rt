@@ -129,3 +129,69 @@ fn lay_crc(place: &mut [u8], at: usize, c: u32)
     place[at + 2] = (c / 256 % 256) as u8;
     place[at + 3] = (c % 256) as u8;
 }
+
+// A section with indicator 0.
+fn lay_plain(h: Head, data: &[u8], place: &mut [u8])
+    requires { ⌜ (3 + length (now «data») ≤ length (now place)) × (length (now «data») < 4096) ⌝ }
+    requires { ⌜ (h .«table_id» < 64) × (h .priority < 4) × (h .reserved < 8) ⌝ }
+    ensures { λ _. ⌜ now (place .exit) ≡ sets (now (place .entry)) 0 (unsealed (Fields.Plain h) [] (now («data» .entry))) ⌝ }
+{
+    let n = data.len();
+    lay_head(place, h, 0, n);
+    octets::copy(place, 3, data);
+}
+
+// A section with indicator 1, up to its CRC_32.
+fn lay_unsealed(h: Head, x: Syntax, loop_bytes: &[u8], data: &[u8], place: &mut [u8])
+    requires { ⌜ (10 + length (now «loop_bytes») + length (now «data») ≤ length (now place)) × (14 + length (now «loop_bytes») + length (now «data») ≤ 4096) ⌝ }
+    requires { ⌜ (h .«table_id» < 64) × (h .priority < 4) × (h .reserved < 8) ⌝ }
+    requires { ⌜ (x .reserved < 4) × (x .version < 32) × (x .«current_next» < 2) × (x .«reserved_loop» < 16) ⌝ }
+    ensures { λ _. ⌜ now (place .exit) ≡ sets (now (place .entry)) 0 (unsealed (Fields.Generic h x) (now («loop_bytes» .entry)) (now («data» .entry))) ⌝ }
+{
+    let l = loop_bytes.len();
+    let d = data.len();
+    lay_head(place, h, 1, 11 + l + d);
+    lay_syntax(place, x, l);
+    octets::copy(place, 10, loop_bytes);
+    octets::copy(place, 10 + l, data);
+}
+
+// A section with indicator 1.
+fn lay_generic(h: Head, x: Syntax, loop_bytes: &[u8], data: &[u8], place: &mut [u8])
+    requires { ⌜ (14 + length (now «loop_bytes») + length (now «data») ≤ length (now place)) × (14 + length (now «loop_bytes») + length (now «data») ≤ 4096) ⌝ }
+    requires { ⌜ (h .«table_id» < 64) × (h .priority < 4) × (h .reserved < 8) ⌝ }
+    requires { ⌜ (x .reserved < 4) × (x .version < 32) × (x .«current_next» < 2) × (x .«reserved_loop» < 16) ⌝ }
+    ensures { λ _. ⌜ now (place .exit) ≡ sets (now (place .entry)) 0 (sectionOf (Fields.Generic h x) (now («loop_bytes» .entry)) (now («data» .entry))) ⌝ }
+{
+    let n = 10 + loop_bytes.len() + data.len();
+    lay_unsealed(h, x, loop_bytes, data, place);
+    let c = crc::crc(&place[..n]);
+    lay_crc(place, n, c);
+}
+
+// A section of fields that fit, in a place that is long enough.
+fn lay(f: Fields, loop_bytes: &[u8], data: &[u8], place: &mut [u8])
+    requires { ⌜ (sizeOf f (length (now «loop_bytes»)) (length (now «data»)) ≤ length (now place)) × (sizeOf f (length (now «loop_bytes»)) (length (now «data»)) ≤ 4096) ⌝ }
+    requires { ⌜ fitsFields f ≡ true ⌝ }
+    ensures { λ _. ⌜ now (place .exit) ≡ sets (now (place .entry)) 0 (sectionOf f (now («loop_bytes» .entry)) (now («data» .entry))) ⌝ }
+{
+    match f {
+        Fields::Plain(h) => lay_plain(h, data, place),
+        Fields::Generic(h, x) => lay_generic(h, x, loop_bytes, data, place),
+    }
+}
+
+// Writes a test data section of the fields, the bytes of its descriptors and its data into the place:
+// its length, or the refusal, 14, then 13, then 15, and then nothing is written. Lengths and CRC_32 are
+// computed. A section with indicator 0 has no descriptors.
+pub fn write(f: Fields, loop_bytes: &[u8], data: &[u8], place: &mut [u8]) -> Written
+    ensures { λ r. ⌜ (r ≡ writeAnswer f (now («loop_bytes» .entry)) (now («data» .entry)) (length (now (place .entry)))) × (now (place .exit) ≡ writeMemory f (now («loop_bytes» .entry)) (now («data» .entry)) (now (place .entry))) ⌝ }
+{
+    let refusal = write_refusal(f, loop_bytes, data, place.len());
+    if refusal != 0 {
+        return Written::Refused(refusal);
+    }
+    let n = size_of(f, loop_bytes.len(), data.len());
+    lay(f, loop_bytes, data, place);
+    Written::Length(n)
+}
