@@ -1,3 +1,4 @@
 pub mod Rows
 pub mod Readings
 pub mod Writings
+pub mod Singles

@@ -1,10 +1,13 @@
 // Test data sections of DVB A046, read and written (document 01, "Test data sections").
 mod descriptors;
 mod reader;
+mod single;
 mod writer;
 
 pub use descriptors::descriptor_at;
 pub use reader::read;
+pub use single::write_fixed;
+pub use single::write_other;
 pub use writer::write;
 
 // A part of the bytes that were handed in: its place and its length.

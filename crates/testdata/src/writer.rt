@@ -1,6 +1,5 @@
-// The writer of test data sections (DVB A046, Table 1) and of single descriptors (5.4).
+// The writer of test data sections (DVB A046, Table 1).
 use crate::Fields;
-use crate::Fixed;
 use crate::Head;
 use crate::Syntax;
 use crate::Written;
@@ -12,9 +11,8 @@ ghost use Prim.Native.Nat.{_+_, _≤_, _<_};
 ghost use lib.ListN.{length};
 ghost use lib.Seq.{sets};
 ghost use Rattle.crc.specs.Crc.{crcBytes};
-ghost use Rattle.testdata.specs.Descriptors.{fitsFixed};
 ghost use Rattle.testdata.specs.Section.{headByte, lengthBytes, syntaxBytes, sizeOf, unsealed, sectionOf, fitsHead, fitsSyntax, fitsFields};
-ghost use Rattle.testdata.specs.Writer.{hasLoop, writeRefusal, writeAnswer, writeMemory, descriptorBytes, fixedBytes, fixedRefusal, fixedAnswer, fixedMemory, otherRefusal, otherAnswer, otherMemory};
+ghost use Rattle.testdata.specs.Writer.{hasLoop, writeRefusal, writeAnswer, writeMemory};
 
 const RUNS_PAST: u8 = 13;
 
