@@ -2,3 +2,5 @@ pub mod Rows
 pub mod Readings
 pub mod Writings
 pub mod Singles
+pub mod Pieces
+pub mod RoundTrips
