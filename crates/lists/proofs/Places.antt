@@ -5,9 +5,10 @@ use Prim.Native.Nat.{ℕ, zero, suc, _+_, _<_, _≤_}
 use native.Mathlib.Nat.{le-of-suc-le-suc, not-suc-le-zero}
 use native.Mathlib.Numerals.{add-one}
 use native.Mathlib.Omega.{arith}
-use lib.ListN.{length, getD, set, take, drop, length-drop}
+use lib.ListN.{length, getD, set, take, drop, length-drop, length-take, List·getD-eq-default}
 use lib.Seq.{getD-take, getD-drop, length-take-le, take-suc}
 use Rattle.lists.specs.Places.{front, fill, part}
+use Rattle.lists.proofs.Turns.{drop-turn}
 
 -- FRONT: a loop that changes each element in turn
 module _ {A : Type 0} (f : A → A) where
@@ -58,3 +59,12 @@ module _ {A : Type 0} where
   pub part-at : (l : List A) (at n i : ℕ) (d : A) → i < n → getD (part l at n) i d ≡ getD l (at + i) d
   unfolding part
   part-at l at n i d h = getD-take n (drop at l) i d h ∙ getD-drop at l i d
+
+  pub part-past : (l : List A) (at n i : ℕ) (d : A) → n ≤ i → getD (part l at n) i d ≡ d
+  unfolding part
+  part-past l at n i d h = List·getD-eq-default (take n (drop at l)) d {n = i} (omega (arith, length-take n (drop at l)))
+
+  -- the first element of a part, and the rest
+  pub part-turn : (l : List A) (at n : ℕ) (d : A) → at < length l → part l at (suc n) ≡ getD l at d ∷ part l (at + 1) n
+  unfolding part
+  part-turn l at n d h = ap (take (suc n)) (drop-turn l at d h)
