@@ -15,6 +15,7 @@ want() { # FILE TEXT
 }
 for crate in $(sed -n 's/^\([a-z0-9_]*\):.*/\1/p' crates.txt); do
     want docs/ARCHITECTURE.md "$crate"
+    [ -f crates/"$crate"/src/lib.rt ] || continue # a program has no callers
     for name in $(sed -n 's/^ *pub \(extern "C" \)\{0,1\}fn \([a-z0-9_]*\).*/\2/p' crates/"$crate"/src/*.rt); do
         want docs/PROMISES.md "$crate::$name"
     done

@@ -7,12 +7,13 @@
 --   fieldsOf s        == the fields of Table 1, reserved bits as they are
 --   loopOf, dataOf s  == the place of the descriptors and of the test data
 --   bytesOf s p       == the bytes at a place
+--   handedOut s p     == those bytes as a part of the slice, none where the place is not within it
 --   readRefusal s     == the refusal number, or 0
 --   readOf s          == the whole answer
 --   refusalOf r       == the paper's number for each case of the answer
 use Prim.Native.Nat.{ℕ, _+_, _-_, _*_, _/_, _%_}
 use mathlib.Core.Bool.{Bool, true, false, cond, not, _&&_, _||_}
-use mathlib.Core.List.{List}
+use mathlib.Core.List.{List, []}
 use lib.Dec.{ltb, leb, eqb}
 use lib.ListN.{length, getD}
 use Rattle.lists.specs.Places.{part}
@@ -98,3 +99,7 @@ readOf s = cond (eqb (readRefusal s) 0) (Section (fieldsOf s) (loopOf s) (dataOf
 abbrev pub refusalOf : Reading → ℕ
 refusalOf (Section f l d) = 0
 refusalOf (Refused n) = n
+
+-- the bytes at a place, as they are handed out: none where the place is not within the bytes
+unfoldable pub handedOut : List ℕ → Part → List ℕ
+handedOut s p = cond (leb (p .at) (length s) && leb (p .len) (length s - p .at)) (bytesOf s p) []

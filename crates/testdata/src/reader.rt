@@ -7,7 +7,7 @@ use crate::Syntax;
 use crate::descriptors;
 ghost use mathlib.Core.Path.{_≡_};
 ghost use Prim.Native.Nat.{_<_};
-ghost use Rattle.testdata.specs.Reader.{isGeneric, fixedFields, lengthOf, loopLength, headOf, syntaxOf, fieldsOf, loopOf, dataOf, lengthWrong, crcWrong, loopRefusal, readRefusal, readOf};
+ghost use Rattle.testdata.specs.Reader.{isGeneric, fixedFields, lengthOf, loopLength, headOf, syntaxOf, fieldsOf, loopOf, dataOf, lengthWrong, crcWrong, loopRefusal, readRefusal, readOf, handedOut};
 
 const BAD_LENGTH: u8 = 11;
 
@@ -158,4 +158,20 @@ pub fn read(s: &[u8]) -> Reading
             len: s.len() - 3,
         },
     }
+}
+
+// The bytes at a place of s, as a part of s; none where the place is not within s.
+pub fn bytes_of(s: &[u8], p: Part) -> &[u8]
+    ensures { λ r. ⌜ now r ≡ handedOut (now (s .entry)) p ⌝ }
+{
+    let at = p.at;
+    let len = p.len;
+    if s.len() < at {
+        return &s[..0];
+    }
+    if s.len() - at < len {
+        return &s[..0];
+    }
+    let end = at + len;
+    &s[at..end]
 }
