@@ -1,0 +1,103 @@
+-- The calls: document 01, "The calls and their numbers". m is section memory, which is part of the state.
+--
+--   Result            == what a call leaves: refusal number (0: accepted), state, counter table, section memory, events
+--   openRefusal, packetRefusal, clockRefusal == the table's refusals, the lowest number where several apply
+--   openCall t counters              == opening
+--   packetCall s t p counters m room == a packet call, for an event list of `room` records
+--   clockCall s t m room             == a clock call
+use Prim.Native.Nat.{ℕ}
+use mathlib.Core.Bool.{Bool, true, false, cond, not, _&&_}
+use mathlib.Core.List.{List, [], _∷_, _++_}
+use lib.Dec.{leb, ltb, eqb}
+use lib.ListN.{length, replicate}
+use Rattle.events.specs.declared.Event.{Event}
+use Rattle.header.specs.Header.{packetSize}
+use Rattle.calls.specs.declared.State.{State}
+use Rattle.calls.specs.Cores.{Held, lateOf, opened, openedState}
+use Rattle.calls.specs.Steps.{Step, step1}
+use Rattle.calls.specs.Sound.{timeSound, stateSound, byteSound}
+
+pub record Result : Type 0 where
+  pub refusal : ℕ
+  pub state : State
+  pub counters : List ℕ
+  pub memory : List ℕ
+  pub events : List Event
+
+abbrev pub tableSize : ℕ
+tableSize = 8192
+
+abbrev pub leastRoom : ℕ
+leastRoom = 96
+
+-- each rung: the number where its condition holds, else the next
+abbrev pub packetWrong : List ℕ → ℕ → ℕ
+packetWrong p next = cond (eqb (length p) packetSize) next 1
+
+abbrev pub tableWrong : List ℕ → ℕ → ℕ
+tableWrong counters next = cond (eqb (length counters) tableSize) next 2
+
+abbrev pub roomWrong : ℕ → ℕ → ℕ
+roomWrong room next = cond (ltb room leastRoom) 3 next
+
+abbrev pub timeWrong : ℕ → ℕ → ℕ
+timeWrong t next = cond (timeSound t) next 4
+
+abbrev pub stateWrong : Bool → ℕ → ℕ
+stateWrong sound next = cond sound next 5
+
+abbrev pub orderWrong : State → ℕ → ℕ → ℕ
+orderWrong s t next = cond (ltb t (s .latest)) 6 next
+
+unfoldable pub openRefusal : ℕ → List ℕ → ℕ
+openRefusal t counters = tableWrong counters (timeWrong t 0)
+
+unfoldable pub packetRefusal : State → ℕ → List ℕ → List ℕ → List ℕ → ℕ → ℕ
+packetRefusal s t p counters m room =
+    packetWrong p (tableWrong counters (roomWrong room (timeWrong t (stateWrong (stateSound s m && byteSound counters p) (orderWrong s t 0)))))
+
+unfoldable pub clockRefusal : State → ℕ → List ℕ → ℕ → ℕ
+clockRefusal s t m room = roomWrong room (timeWrong t (stateWrong (stateSound s m) (orderWrong s t 0)))
+
+-- OPENING: takes no section memory and no event list
+abbrev pub openState : ℕ → List ℕ → State
+openState t counters = cond (eqb (openRefusal t counters) 0) (openedState t) (openedState 0)
+
+abbrev pub openTable : ℕ → List ℕ → List ℕ
+openTable t counters = cond (eqb (openRefusal t counters) 0) (replicate tableSize 0) counters
+
+-- A REFUSAL hands back what it was given, with no event
+abbrev pub refusedWith : ℕ → State → List ℕ → List ℕ → Result
+refusedWith n s counters m = record { refusal = n; state = s; counters = counters; memory = m; events = [] }
+
+-- AN ACCEPTED CALL: the late events, then those of steps 1 to 5
+abbrev pub heldOf : State → List ℕ → Held
+heldOf s m = record { core = s .core; memory = m }
+
+abbrev pub stepped : State → ℕ → List ℕ → List ℕ → List ℕ → Step
+stepped s t p counters m = step1 t p counters (heldOf s m)
+
+abbrev pub acceptedPacket : State → ℕ → List ℕ → List ℕ → List ℕ → Result
+acceptedPacket s t p counters m =
+    let x = stepped s t p counters m in
+    record {
+      refusal = 0;
+      state = record { latest = t; core = x .held .core };
+      counters = x .counters;
+      memory = x .held .memory;
+      events = lateOf (s .latest) t (s .core) ++ x .events;
+    }
+
+abbrev pub acceptedClock : State → ℕ → List ℕ → List ℕ → Result
+acceptedClock s t counters m =
+    record { refusal = 0; state = record { latest = t; core = s .core }; counters = counters; memory = m; events = lateOf (s .latest) t (s .core) }
+
+unfoldable pub packetCall : State → ℕ → List ℕ → List ℕ → List ℕ → ℕ → Result
+packetCall s t p counters m room =
+    let accepted = acceptedPacket s t p counters m in
+    cond (eqb (packetRefusal s t p counters m room) 0) accepted (refusedWith (packetRefusal s t p counters m room) s counters m)
+
+unfoldable pub clockCall : State → ℕ → List ℕ → ℕ → Result
+clockCall s t m room =
+    let accepted = acceptedClock s t [] m in
+    cond (eqb (clockRefusal s t m room) 0) accepted (refusedWith (clockRefusal s t m room) s [] m)

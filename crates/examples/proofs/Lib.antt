@@ -1,0 +1,4 @@
+pub mod Boundary
+pub mod Sections
+pub mod Programmes
+pub mod Steps

@@ -1,0 +1,4 @@
+pub mod Rooms
+pub mod Section
+pub mod Building
+pub mod Outcomes

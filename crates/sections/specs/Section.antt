@@ -1,0 +1,47 @@
+-- One section: its fields, how far its bytes are, and the section_length rule: document 01, "Building sections". s are the bytes of the
+-- section so far.
+--
+--   tableId s          == its first byte
+--   syntaxIndicator s  == section_syntax_indicator is 1
+--   sectionLength s    == section_length, twelve bits that end with the third byte
+--   extensionOf s      == table_id_extension
+--   currentOf s        == current_next_indicator is 1
+--   lengthBad top s    == section_length above the greatest, or too short: below 9 where the indicator is 1, below 4 for table_id 0x73
+--   stageOf top s      == more bytes are to come; section_length breaks the rule, which is judged with the third byte; or whole
+use Prim.Native.Nat.{ℕ, _+_, _*_, _/_, _%_}
+use mathlib.Core.Bool.{Bool, true, false, cond, _&&_, _||_}
+use mathlib.Core.List.{List}
+use lib.Dec.{leb, ltb, eqb}
+use lib.ListN.{length, getD}
+use Rattle.sections.specs.declared.Stage.{Stage}
+use Rattle.sections.specs.declared.Stage.the-variants.{More, Bad, Whole}
+
+abbrev pub tableId : List ℕ → ℕ
+tableId s = getD s 0 0
+
+abbrev pub syntaxIndicator : List ℕ → Bool
+syntaxIndicator s = leb 128 (getD s 1 0)
+
+abbrev pub sectionLength : List ℕ → ℕ
+sectionLength s = getD s 1 0 % 16 * 256 + getD s 2 0
+
+abbrev pub extensionOf : List ℕ → ℕ
+extensionOf s = getD s 3 0 * 256 + getD s 4 0
+
+abbrev pub currentOf : List ℕ → Bool
+currentOf s = eqb (getD s 5 0 % 2) 1
+
+abbrev pub lengthBad : ℕ → List ℕ → Bool
+lengthBad top s =
+    ltb top (sectionLength s) || (syntaxIndicator s && ltb (sectionLength s) 9) || (eqb (tableId s) 0x73 && ltb (sectionLength s) 4)
+
+unfoldable pub stageOf : ℕ → List ℕ → Stage
+stageOf top s =
+    cond (ltb (length s) 3) More
+    (cond (lengthBad top s) Bad
+    (cond (ltb (length s) (sectionLength s + 3)) More Whole))
+
+abbrev pub isMore : Stage → Bool
+isMore More = true
+isMore Bad = false
+isMore Whole = false
