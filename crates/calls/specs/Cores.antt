@@ -14,10 +14,10 @@ use lib.Dec.{eqb, ltb}
 use lib.ListN.{length, getD, set, take, replicate}
 use Rattle.events.specs.declared.Event.{Event}
 use Rattle.watches.specs.declared.Entry.{Entry}
-use Rattle.watches.specs.Tables.{Table, fixedTables}
+use Rattle.watches.specs.Tables.{Table, fixedTables, noEntry}
 use Rattle.watches.specs.Late.{tablesLate, entriesLate}
 use Rattle.sections.specs.Rooms.{roomCount, noRoom, roomOfPlace}
-use Rattle.programmes.specs.Listing.{mostListed, noEntry}
+use Rattle.programmes.specs.Listing.{mostListed}
 use Rattle.programmes.specs.Places.{placeOf, isListed}
 use Rattle.calls.specs.declared.Core.{Core}
 use Rattle.calls.specs.declared.State.{State}

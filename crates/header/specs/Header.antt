@@ -6,10 +6,12 @@
 --   scrambledBits p == transport_scrambling_control is not 00
 --   controlOf p     == adaptation_field_control, a number: 0 for 00, 1 for 01, 2 for 10, 3 for 11
 --   counterOf p     == continuity_counter
---   lengthRight p   == control 10 needs adaptation length 183, control 11 needs 0 to 182
+--   rightLength control length == control 10 needs adaptation length 183, control 11 needs 0 to 182
+--   lengthRight p   == the packet's is right
 --   indicator p     == the discontinuity indicator: 0 where there is none, with length 0, and with a wrong length
---   hasPayload p    == there is a payload to take: control 01, or 11 with a right length
---   payloadAt p     == where the payload begins; 188 where there is none
+--   hasPayload control length == there is a payload to take: control 01, or 11 with a right length
+--   payloadPlace control length == where it begins; 188 where there is none
+--   payloadAt p     == where the packet's begins
 --   payloadOf p     == the part of the packet after its header and adaptation field
 --   headerOf p      == all of it
 use Prim.Native.Nat.{ℕ, _+_, _*_, _/_, _%_}
@@ -46,19 +48,23 @@ counterOf p = getD p 3 0 % 16
 abbrev pub adaptationLength : List ℕ → ℕ
 adaptationLength p = getD p 4 0
 
+abbrev pub rightLength : ℕ → ℕ → Bool
+rightLength control length = cond (eqb control 2) (eqb length 183) (cond (eqb control 3) (leb length 182) true)
+
 abbrev pub lengthRight : List ℕ → Bool
-lengthRight p =
-    cond (eqb (controlOf p) 2) (eqb (adaptationLength p) 183)
-    (cond (eqb (controlOf p) 3) (leb (adaptationLength p) 182) true)
+lengthRight p = rightLength (controlOf p) (adaptationLength p)
 
 abbrev pub indicator : List ℕ → Bool
 indicator p = leb 2 (controlOf p) && lengthRight p && ltb 0 (adaptationLength p) && leb 128 (getD p 5 0)
 
-abbrev pub hasPayload : List ℕ → Bool
-hasPayload p = eqb (controlOf p) 1 || (eqb (controlOf p) 3 && lengthRight p)
+abbrev pub hasPayload : ℕ → ℕ → Bool
+hasPayload control length = eqb control 1 || (eqb control 3 && rightLength control length)
+
+abbrev pub payloadPlace : ℕ → ℕ → ℕ
+payloadPlace control length = cond (hasPayload control length) (cond (eqb control 1) 4 (5 + length)) packetSize
 
 abbrev pub payloadAt : List ℕ → ℕ
-payloadAt p = cond (hasPayload p) (cond (eqb (controlOf p) 1) 4 (5 + adaptationLength p)) packetSize
+payloadAt p = payloadPlace (controlOf p) (adaptationLength p)
 
 abbrev pub payloadOf : List ℕ → List ℕ
 payloadOf p = drop (payloadAt p) p

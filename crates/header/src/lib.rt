@@ -1,5 +1,11 @@
 // The header of a transport packet and its adaptation field (document 01, "Judging one packet"; ISO/IEC
 // 13818-1, 2.4.3.2 to 2.4.3.5).
+ghost use mathlib.Core.Path.{_≡_};
+ghost use Prim.Native.Nat.{_+_, _*_, _%_, _<_};
+ghost use lib.ListN.{length};
+ghost use Rattle.header.specs.Header.{packetSize, rightLength, payloadPlace, headerOf};
+
+const PACKET_SIZE: usize = 188;
 
 // What steps 2 to 5 look at.
 pub struct Header {
@@ -14,4 +20,60 @@ pub struct Header {
     pub discontinuity: bool,
     // where the payload begins; 188 where there is none
     pub payload: usize,
+}
+
+// Whether an adaptation length is as its control needs it.
+fn right_length(control: u8, length: u8) -> bool
+    ensures { λ r. ⌜ r ≡ rightLength control length ⌝ }
+{
+    if control == 2 {
+        return length == 183;
+    }
+    if control == 3 {
+        return length <= 182;
+    }
+    true
+}
+
+// Where the payload begins.
+fn payload_place(control: u8, length: u8) -> usize
+    ensures { λ r. ⌜ r ≡ payloadPlace control length ⌝ }
+{
+    if control == 1 {
+        return 4;
+    }
+    if control == 3 {
+        if length <= 182 {
+            return 5 + length as usize;
+        }
+    }
+    PACKET_SIZE
+}
+
+// The 13 PID bits in two bytes.
+fn pid_bits(high: u8, low: u8) -> u16
+    ensures { λ r. ⌜ (r ≡ high % 32 * 256 + low) × (r < 8192) ⌝ }
+{
+    (high % 32) as u16 * 256 + low as u16
+}
+
+// The fields of a packet.
+pub fn read(p: &[u8]) -> Header
+    requires { ⌜ length (now p) ≡ packetSize ⌝ }
+    ensures { λ r. ⌜ (r ≡ headerOf (now (p .entry))) × (r .pid < 8192) ⌝ }
+{
+    let control = p[3] / 16 % 4;
+    let length = p[4];
+    let right = right_length(control, length);
+    Header {
+        error: 128 <= p[1],
+        start: p[1] / 64 % 2 == 1,
+        pid: pid_bits(p[1], p[2]),
+        scrambled: 64 <= p[3],
+        control: control,
+        counter: p[3] % 16,
+        right: right,
+        discontinuity: (2 <= control) & right & (0 < length) & (128 <= p[5]),
+        payload: payload_place(control, length),
+    }
 }

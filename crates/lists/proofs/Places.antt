@@ -1,12 +1,12 @@
 -- Lists changed place by place, one turn of the loop at a time. Assumes nothing.
 use mathlib.Core.Path.{_≡_, refl, sym, ap, _∙_}
-use mathlib.Core.List.{List, [], _∷_}
-use Prim.Native.Nat.{ℕ, zero, suc, _+_, _<_, _≤_}
-use native.Mathlib.Nat.{le-of-suc-le-suc, not-suc-le-zero}
+use mathlib.Core.List.{List, [], _∷_, _++_, append-nil, append-assoc}
+use Prim.Native.Nat.{ℕ, zero, suc, _+_, _-_, _<_, _≤_}
+use native.Mathlib.Nat.{add-zero, le-of-suc-le-suc, not-suc-le-zero}
 use native.Mathlib.Numerals.{add-one}
 use native.Mathlib.Omega.{arith}
-use lib.ListN.{length, getD, set, take, drop, length-drop, length-take, List·getD-eq-default}
-use lib.Seq.{getD-take, getD-drop, length-take-le, take-suc}
+use lib.ListN.{length, getD, set, take, drop, length-drop, length-take, length-set, List·getD-eq-default}
+use lib.Seq.{sets, getD-take, getD-drop, length-take-le, take-suc-set, drop-set-add}
 use Rattle.lists.specs.Places.{front, fill, part}
 use Rattle.lists.proofs.Turns.{drop-turn}
 
@@ -68,3 +68,27 @@ module _ {A : Type 0} where
   pub part-turn : (l : List A) (at n : ℕ) (d : A) → at < length l → part l at (suc n) ≡ getD l at d ∷ part l (at + 1) n
   unfolding part
   part-turn l at n d h = ap (take (suc n)) (drop-turn l at d h)
+
+  -- a part, as it is lent
+  pub part-lent : (l : List A) (at n : ℕ) → take (at + n - at) (drop at l) ≡ part l at n
+  unfolding part
+  part-lent l at n =
+      let e : at + n - at ≡ n = omega arith in
+      ap (λ k. take k (drop at l)) e
+
+  -- a part and what is laid behind it
+  part-set : (l : List A) (at n : ℕ) (a : A) → at + n < length l → part (set l (at + n) a) at (n + 1) ≡ part l at n ++ (a ∷ [])
+  unfolding part
+  part-set l at n a h =
+      rw (add-one n, drop-set-add at l n a) (take-suc-set (drop at l) n a (omega (arith, length-drop at l)))
+
+  pub part-sets : (l : List A) (at n : ℕ) (s : List A) → at + n + length s ≤ length l → part (sets l (at + n) s) at (n + length s) ≡ part l at n ++ s
+  part-sets l at n [] h = rw (add-zero n) (sym (append-nil (part l at n)))
+  part-sets l at n (a ∷ s) h =
+      let i : suc (at + n) ≡ at + (n + 1) = omega arith in
+      let k : n + suc (length s) ≡ n + 1 + length s = omega arith in
+      let g : at + (n + 1) + length s ≤ length (set l (at + n) a) = rw (length-set l (at + n) a) (omega arith) in
+      rw (i, k)
+      (part-sets (set l (at + n) a) at (n + 1) s g
+      ∙ ap (λ z. z ++ s) (part-set l at n a (omega arith))
+      ∙ append-assoc (part l at n) (a ∷ []) s)

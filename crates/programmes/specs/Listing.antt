@@ -17,6 +17,7 @@ use lib.Dec.{leb, ltb, eqb}
 use lib.ListN.{length, set, replicate}
 use Rattle.lists.specs.Places.{part}
 use Rattle.watches.specs.declared.Entry.{Entry}
+use Rattle.watches.specs.Tables.{noEntry}
 use Rattle.programmes.specs.declared.Listed.{Listed}
 
 abbrev pub mostListed : ℕ
@@ -50,9 +51,6 @@ isPair n q e = eqb (e .number) n && eqb (e .pid) q
 unfoldable pub sinceOf : ℕ → List Entry → ℕ → ℕ → ℕ
 sinceOf t [] n q = t
 sinceOf t (e ∷ es) n q = cond (isPair n q e) (e .since) (sinceOf t es n q)
-
-abbrev pub noEntry : Entry
-noEntry = record { number = 0; pid = 0; since = 0 }
 
 abbrev pub madeBad : Listed → Listed
 madeBad l = record { count = l .count; bad = true; entries = l .entries }

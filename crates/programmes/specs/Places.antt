@@ -15,8 +15,8 @@ use lib.Dec.{ltb, eqb}
 use lib.ListN.{length, getD, take}
 use lib.Seq.{sets}
 use Rattle.watches.specs.declared.Entry.{Entry}
+use Rattle.watches.specs.Tables.{noEntry}
 use Rattle.sections.specs.Rooms.{roomOfPlace, roomBase, halfBuilt}
-use Rattle.programmes.specs.Listing.{noEntry}
 
 unfoldable pub placeOf : ℕ → List Entry → ℕ
 placeOf q [] = 0

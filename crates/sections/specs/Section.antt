@@ -2,11 +2,15 @@
 -- section so far.
 --
 --   tableId s          == its first byte
---   syntaxIndicator s  == section_syntax_indicator is 1
+--   indicatorIn b      == section_syntax_indicator in the second byte is 1
+--   syntaxIndicator s  == the section's is
 --   sectionLength s    == section_length, twelve bits that end with the third byte
 --   extensionOf s      == table_id_extension
---   currentOf s        == current_next_indicator is 1
---   lengthBad top s    == section_length above the greatest, or too short: below 9 where the indicator is 1, below 4 for table_id 0x73
+--   currentIn b        == current_next_indicator in the sixth byte is 1
+--   currentOf s        == the section's is
+--   badNumbers top id second n == section_length above the greatest, or too short: below 9 where the indicator is 1,
+--                         below 4 for table_id 0x73
+--   lengthBad top s    == the section's is
 --   stageOf top s      == more bytes are to come; section_length breaks the rule, which is judged with the third byte; or whole
 use Prim.Native.Nat.{ℕ, _+_, _*_, _/_, _%_}
 use mathlib.Core.Bool.{Bool, true, false, cond, _&&_, _||_}
@@ -19,8 +23,11 @@ use Rattle.sections.specs.declared.Stage.the-variants.{More, Bad, Whole}
 abbrev pub tableId : List ℕ → ℕ
 tableId s = getD s 0 0
 
+abbrev pub indicatorIn : ℕ → Bool
+indicatorIn second = leb 128 second
+
 abbrev pub syntaxIndicator : List ℕ → Bool
-syntaxIndicator s = leb 128 (getD s 1 0)
+syntaxIndicator s = indicatorIn (getD s 1 0)
 
 abbrev pub sectionLength : List ℕ → ℕ
 sectionLength s = getD s 1 0 % 16 * 256 + getD s 2 0
@@ -28,12 +35,17 @@ sectionLength s = getD s 1 0 % 16 * 256 + getD s 2 0
 abbrev pub extensionOf : List ℕ → ℕ
 extensionOf s = getD s 3 0 * 256 + getD s 4 0
 
+abbrev pub currentIn : ℕ → Bool
+currentIn sixth = eqb (sixth % 2) 1
+
 abbrev pub currentOf : List ℕ → Bool
-currentOf s = eqb (getD s 5 0 % 2) 1
+currentOf s = currentIn (getD s 5 0)
+
+abbrev pub badNumbers : ℕ → ℕ → ℕ → ℕ → Bool
+badNumbers top id second n = ltb top n || (indicatorIn second && ltb n 9) || (eqb id 0x73 && ltb n 4)
 
 abbrev pub lengthBad : ℕ → List ℕ → Bool
-lengthBad top s =
-    ltb top (sectionLength s) || (syntaxIndicator s && ltb (sectionLength s) 9) || (eqb (tableId s) 0x73 && ltb (sectionLength s) 4)
+lengthBad top s = badNumbers top (tableId s) (getD s 1 0) (sectionLength s)
 
 unfoldable pub stageOf : ℕ → List ℕ → Stage
 stageOf top s =

@@ -10,10 +10,10 @@ use Prim.Native.Nat.{ℕ}
 use mathlib.Core.List.{List, [], _∷_, _++_, map}
 use Rattle.lateness.specs.Gaps.{due}
 use Rattle.events.specs.declared.Event.{Event}
-use Rattle.events.specs.Faults.{pmtError, late}
+use Rattle.events.specs.Faults.{late}
 use Rattle.events.specs.Events.{eventAt}
 use Rattle.watches.specs.declared.Entry.{Entry}
-use Rattle.watches.specs.Tables.{Table, pmtLimit}
+use Rattle.watches.specs.Tables.{Table, pmtTable}
 
 abbrev pub lateEvents : List ℕ → ℕ → ℕ → ℕ → ℕ → ℕ → List Event
 lateEvents ls f i p t s = map (λ x. eventAt x f late i) (due ls s p t)
@@ -22,7 +22,7 @@ abbrev pub tableLate : ℕ → ℕ → Table → ℕ → List Event
 tableLate p t r s = lateEvents (r .limit ∷ []) (r .fault) (r .pid) p t s
 
 abbrev pub entryLate : ℕ → ℕ → Entry → List Event
-entryLate p t e = lateEvents (pmtLimit ∷ []) pmtError (e .number) p t (e .since)
+entryLate p t e = lateEvents (pmtTable .limit ∷ []) (pmtTable .fault) (e .number) p t (e .since)
 
 unfoldable pub tablesLate : ℕ → ℕ → List Table → List ℕ → List Event
 tablesLate p t [] ss = []

@@ -3,11 +3,15 @@
 --   Table        == a row: PID, table_id, limit in ticks, fault
 --   fixedTables  == the fixed watches, down the table: PAT, NIT actual, SDT actual, EIT p/f actual, TDT
 --   patPid .. tdtPid == their PIDs
---   pmtTableId, pmtLimit == those of each listed programme
+--   pmtTable     == the row of each listed programme, whose PID is its own
+--   tableOf k    == the row of the fixed watch k, and that of the programmes past the fixed ones
+--   noEntry      == a place of the list without a programme
 --   latestTime   == times are 0 to 2^62
 use Prim.Native.Nat.{ℕ, _^_}
 use mathlib.Core.List.{List, [], _∷_}
-use Rattle.events.specs.Faults.{nitError, sdtError, eitError, tdtError, patError}
+use lib.ListN.{getD}
+use Rattle.events.specs.Faults.{nitError, sdtError, eitError, tdtError, patError, pmtError}
+use Rattle.watches.specs.declared.Entry.{Entry}
 
 pub record Table : Type 0 where
   pub pid : ℕ
@@ -39,11 +43,14 @@ fixedTables =
     ∷ record { pid = tdtPid; tableId = 0x70; limit = 810_000_000; fault = tdtError }
     ∷ []
 
-abbrev pub pmtTableId : ℕ
-pmtTableId = 0x02
+abbrev pub pmtTable : Table
+pmtTable = record { pid = 0; tableId = 0x02; limit = 13_500_000; fault = pmtError }
 
-abbrev pub pmtLimit : ℕ
-pmtLimit = 13_500_000
+abbrev pub tableOf : ℕ → Table
+tableOf k = getD fixedTables k pmtTable
+
+abbrev pub noEntry : Entry
+noEntry = record { number = 0; pid = 0; since = 0 }
 
 abbrev pub latestTime : ℕ
 latestTime = 2 ^ 62
