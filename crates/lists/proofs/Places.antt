@@ -5,8 +5,8 @@ use Prim.Native.Nat.{ℕ, zero, suc, _+_, _-_, _<_, _≤_}
 use native.Mathlib.Nat.{add-zero, le-of-suc-le-suc, not-suc-le-zero}
 use native.Mathlib.Numerals.{add-one}
 use native.Mathlib.Omega.{arith}
-use lib.ListN.{length, getD, set, take, drop, length-drop, length-take, length-set, List·getD-eq-default}
-use lib.Seq.{sets, getD-take, getD-drop, length-take-le, take-suc-set, drop-set-add}
+use lib.ListN.{length, getD, set, take, drop, length-drop, length-take, length-set, take-append-drop, List·getD-eq-default}
+use lib.Seq.{sets, sets-eq, drop-drop, getD-take, getD-drop, length-take-le, take-suc-set, drop-set-add}
 use Rattle.lists.specs.Places.{front, fill, part}
 use Rattle.lists.proofs.Turns.{drop-turn}
 
@@ -92,3 +92,18 @@ module _ {A : Type 0} where
       (part-sets (set l (at + n) a) at (n + 1) s g
       ∙ ap (λ z. z ++ s) (part-set l at n a (omega arith))
       ∙ append-assoc (part l at n) (a ∷ []) s)
+
+  -- a part laid where it stands
+  pub part-back : (l : List A) (at n : ℕ) → at + n ≤ length l → sets l at (part l at n) ≡ l
+  unfolding part
+  part-back l at n h =
+      sets-eq (part l at n) l at (rw (part-length l at n h) h)
+      ∙ ap (λ k. take at l ++ part l at n ++ drop (at + k) l) (part-length l at n h)
+      ∙ whole
+    where
+      whole : take at l ++ part l at n ++ drop (at + n) l ≡ l
+      whole =
+          append-assoc (take at l) (part l at n) (drop (at + n) l)
+          ∙ ap (λ z. take at l ++ (part l at n ++ z)) (sym (drop-drop n at l))
+          ∙ ap (λ z. take at l ++ z) (take-append-drop n (drop at l))
+          ∙ take-append-drop at l

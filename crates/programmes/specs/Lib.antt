@@ -1,2 +1,4 @@
 pub mod Listing
+pub mod Reading
 pub mod Places
+pub mod Moving

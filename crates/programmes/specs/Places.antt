@@ -45,14 +45,14 @@ movedFrom old new ns k (suc left) = movedHalf old new ns k ∷ movedFrom old new
 abbrev pub movedHalves : List Entry → List Entry → List ℕ → List ℕ
 movedHalves old new ns = take 5 ns ++ movedFrom old new ns 0 16
 
--- the place k of the new list, its bytes taken from the memory m₀ that was there before any moved
+-- the place k of the new list, its bytes taken from the memory m₀ that was there before any moved; ns are the new half-built lengths
 abbrev pub movedPlace : List Entry → List Entry → List ℕ → List ℕ → ℕ → List ℕ → List ℕ
 movedPlace old new ns m₀ k m =
-    sets m (roomBase (roomOfPlace k)) (halfBuilt m₀ (roomOfPlace (placeOf (pidAt new k) old)) (movedHalf old new ns k))
+    sets m (roomBase (roomOfPlace k)) (halfBuilt m₀ (roomOfPlace (placeOf (pidAt new k) old)) (halfAt ns (roomOfPlace k)))
 
 unfoldable pub movedPlaces : List Entry → List Entry → List ℕ → List ℕ → ℕ → ℕ → List ℕ → List ℕ
 movedPlaces old new ns m₀ k zero m = m
 movedPlaces old new ns m₀ k (suc left) m = movedPlaces old new ns m₀ (k + 1) left (movedPlace old new ns m₀ k m)
 
 abbrev pub movedBytes : List Entry → List Entry → List ℕ → List ℕ → List ℕ
-movedBytes old new ns m = movedPlaces old new ns m 0 16 m
+movedBytes old new ns m = movedPlaces old new (movedHalves old new ns) m 0 16 m

@@ -6,13 +6,13 @@ use Prim.Native.Nat.{ℕ, zero, suc, _+_, _*_, _%_, _≤_, _<_}
 use native.Mathlib.Omega.{arith}
 use lib.Dec.{leb, ltb, eqb}
 use lib.ListN.{length, getD, drop, length-append, List·getD-append, length-take, length-drop}
-use borrow.Author.Tests.{lt-ltb, le-ltb, ltb-true, ltb-false, leb-true}
+use borrow.Author.Tests.{lt-ltb, le-ltb, ne-eqb, ltb-true, ltb-false, leb-true}
 use Rattle.lists.specs.Places.{part}
 use Rattle.lists.proofs.Tests.{Order, below, from, order}
 use Rattle.lists.proofs.Table.{passes-at}
 use Rattle.sections.specs.declared.Stage.{Stage}
 use Rattle.sections.specs.declared.Stage.the-variants.{More, Bad, Whole}
-use Rattle.sections.specs.Rooms.{memorySize, roomCount, roomBase, greatestLength, halfBuilt}
+use Rattle.sections.specs.Rooms.{memorySize, roomCount, roomOfPlace, roomBase, greatestLength, halfBuilt}
 use Rattle.sections.specs.Section.{sectionLength, lengthBad, stageOf, isMore}
 
 pub stage-few : (top : ℕ) (h : List ℕ) → length h < 3 → stageOf top h ≡ More
@@ -68,6 +68,11 @@ more-short top h e = go (order (length h) 3)
 -- ROOMS lie within section memory
 pub room-fits : (r : ℕ) → r < roomCount → roomBase r + greatestLength r + 3 ≤ memorySize
 room-fits r h = leb-true (roomBase r + greatestLength r + 3) memorySize (passes-at (λ r. leb (roomBase r + greatestLength r + 3) memorySize) roomCount refl r h)
+
+pub place-fits : (k : ℕ) → k < 16 → roomBase (roomOfPlace k) + 1024 ≤ memorySize
+place-fits k h =
+    let top : greatestLength (roomOfPlace k) ≡ 1021 = rw (ne-eqb (roomOfPlace k) 3 (λ e. omega arith)) in
+    omega (arith, top, room-fits (roomOfPlace k) (omega arith))
 
 -- and an unfinished section within its room
 pub half-short : (m : List ℕ) (base top n : ℕ) → base + top + 3 ≤ length m → isMore (stageOf top (part m base n)) ≡ true → n < top + 3

@@ -1,0 +1,62 @@
+-- The list read entry by entry. Assumes nothing.
+use mathlib.Core.Path.{_≡_, refl, sym, ap, _∙_}
+use mathlib.Core.Bool.{Bool, true, false, cond, _||_}
+use mathlib.Core.List.{List, [], _∷_}
+use Prim.Native.Nat.{ℕ, zero, suc, _+_, _-_, _*_, _≤_, _<_}
+use native.Mathlib.Numerals.{add-one}
+use native.Mathlib.Omega.{arith}
+use lib.Dec.{eqb}
+use lib.ListN.{length, getD, drop, length-drop}
+use Rattle.lists.proofs.Turns.{drop-turn}
+use Rattle.watches.specs.declared.Entry.{Entry}
+use Rattle.programmes.specs.declared.Listed.{Listed}
+use Rattle.programmes.specs.Listing.{isNumber, entered, madeBad, readOn}
+use Rattle.programmes.specs.Reading.{numberAt, pidIn, seenTo}
+
+-- A NUMBER SEEN EARLIER: the nearest entry before, or one before that
+pub seen-turn : (n : ℕ) (e : List ℕ) (i : ℕ) → 0 < i → isNumber n (seenTo e i) ≡ (eqb (numberAt e (i - 1)) n || isNumber n (seenTo e (i - 1)))
+unfolding isNumber seenTo
+seen-turn n e i h =
+    let q : i ≡ suc (i - 1) = omega arith in
+    ap (λ k. isNumber n (seenTo e k)) q
+
+pub seen-none : (n : ℕ) (e : List ℕ) (i : ℕ) → i ≤ 0 → isNumber n (seenTo e i) ≡ false
+unfolding isNumber seenTo
+seen-none n e i h =
+    let q : i ≡ 0 = omega arith in
+    ap (λ k. isNumber n (seenTo e k)) q
+
+-- ONE ENTRY of four bytes
+fours : (e : List ℕ) (i : ℕ) → i + 4 ≤ length e
+    → drop i e ≡ getD e i 0 ∷ getD e (i + 1) 0 ∷ getD e (i + 2) 0 ∷ getD e (i + 3) 0 ∷ drop (i + 4) e
+fours e i h =
+    let two : i + 1 + 1 ≡ i + 2 = omega arith in
+    let three : i + 2 + 1 ≡ i + 3 = omega arith in
+    let four : i + 3 + 1 ≡ i + 4 = omega arith in
+    rw (drop-turn e i 0 (omega arith), drop-turn e (i + 1) 0 (omega arith), two, drop-turn e (i + 2) 0 (omega arith), three, drop-turn e (i + 3) 0 (omega arith), four)
+
+module _ (t : ℕ) (old : List Entry) (e : List ℕ) where
+  pub read-turn : (k : ℕ) (l : Listed) → 4 * k + 4 ≤ length e
+      → readOn t old (seenTo e k) l (drop (4 * k) e)
+      ≡ readOn t old (seenTo e (k + 1)) (entered t old (seenTo e k) (numberAt e k) (pidIn e k) l) (drop (4 * (k + 1)) e)
+  unfolding readOn seenTo
+  read-turn k l h =
+      let q : 4 * suc k ≡ 4 * k + 4 = omega arith in
+      rw (add-one k) (ap (readOn t old (seenTo e k) l) (fours e (4 * k) h) ∙ ap (λ z. readOn t old (numberAt e k ∷ seenTo e k) (entered t old (seenTo e k) (numberAt e k) (pidIn e k) l) (drop z e)) (sym q))
+
+  pub read-begins : (l : Listed) → readOn t old [] l e ≡ readOn t old (seenTo e 0) l (drop (4 * 0) e)
+  unfolding seenTo
+  read-begins l = refl
+
+  -- ONE TO THREE SPARE BYTES make the list bad
+  spare : (seen : List ℕ) (l : Listed) (s : List ℕ) → length s < 4 → readOn t old seen l s ≡ cond (eqb (length s) 0) l (madeBad l)
+  unfolding readOn
+  spare seen l [] h = refl
+  spare seen l (a ∷ []) h = refl
+  spare seen l (a ∷ b ∷ []) h = refl
+  spare seen l (a ∷ b ∷ c ∷ []) h = refl
+  spare seen l (a ∷ b ∷ c ∷ d ∷ s) h = absurd (omega arith)
+
+  pub read-ends : (k : ℕ) (l : Listed) → 4 * k ≤ length e → length e < 4 * k + 4
+      → readOn t old (seenTo e k) l (drop (4 * k) e) ≡ cond (eqb (length (drop (4 * k) e)) 0) l (madeBad l)
+  read-ends k l h g = spare (seenTo e k) l (drop (4 * k) e) (omega (arith, length-drop (4 * k) e))

@@ -1,0 +1,44 @@
+-- Searches through a list, one turn of the loop at a time: what is still to be searched begins with the entry at hand. Assumes nothing.
+use mathlib.Core.Path.{_≡_, refl, sym, ap, _∙_}
+use mathlib.Core.Bool.{Bool, true, false, cond}
+use mathlib.Core.List.{List, [], _∷_}
+use Prim.Native.Nat.{ℕ, zero, suc, _+_, _≤_, _<_}
+use native.Mathlib.Omega.{arith}
+use lib.Dec.{eqb}
+use lib.ListN.{length, getD, take, drop}
+use lib.Seq.{length-take-le}
+use Rattle.lists.proofs.Turns.{left-turn, left-none}
+use Rattle.watches.specs.declared.Entry.{Entry}
+use Rattle.watches.specs.Tables.{noEntry}
+use Rattle.programmes.specs.Listing.{isPair, sinceOf}
+use Rattle.programmes.specs.Places.{placeOf}
+
+module _ (es : List Entry) (count i : ℕ) (fits : count ≤ length es) where
+  -- the watch of a pair
+  pub since-here : (t n q : ℕ) → i < count → isPair n q (getD es i noEntry) ≡ true
+      → sinceOf t (drop i (take count es)) n q ≡ getD es i noEntry .since
+  unfolding sinceOf
+  since-here t n q h e = rw (left-turn es count i noEntry h fits, e)
+
+  pub since-on : (t n q : ℕ) → i < count → isPair n q (getD es i noEntry) ≡ false
+      → sinceOf t (drop i (take count es)) n q ≡ sinceOf t (drop (i + 1) (take count es)) n q
+  unfolding sinceOf
+  since-on t n q h e = rw (left-turn es count i noEntry h fits, e)
+
+  pub since-none : (t n q : ℕ) → count ≤ i → sinceOf t (drop i (take count es)) n q ≡ t
+  unfolding sinceOf
+  since-none t n q h = rw (left-none es count i h fits)
+
+  -- the first place with a PID
+  pub place-here : (q : ℕ) → i < count → eqb (getD es i noEntry .pid) q ≡ true → placeOf q (drop i (take count es)) ≡ 0
+  unfolding placeOf
+  place-here q h e = rw (left-turn es count i noEntry h fits, e)
+
+  pub place-on : (q : ℕ) → i < count → eqb (getD es i noEntry .pid) q ≡ false
+      → placeOf q (drop i (take count es)) ≡ suc (placeOf q (drop (i + 1) (take count es)))
+  unfolding placeOf
+  place-on q h e = rw (left-turn es count i noEntry h fits, e)
+
+  pub place-none : (q : ℕ) → count ≤ i → placeOf q (drop i (take count es)) ≡ 0
+  unfolding placeOf
+  place-none q h = rw (left-none es count i h fits)

@@ -1,0 +1,67 @@
+-- `programmes::since_of` meets its contract. Assumes nothing.
+use borrow.Author.Needs.{needs}
+use mathlib.Core.Path.{_≡_, refl, sym, _∙_}
+use Prim.Native.Nat.{_-_, _≤_}
+use native.Mathlib.Omega.{arith}
+use lib.ListN.{length, take, drop}
+use Rattle.programmes.specs.Listing.{sinceOf}
+use Rattle.programmes.proofs.Searches.{since-here, since-on, since-none}
+use Rattle.programmes.proofs.since_of.Statement.{statement}
+use Rattle.programmes.proofs.since_of.Tie as tie
+
+abbrev Inv-loop : tie.InvT-loop
+Inv-loop t count number pid old i₀ i = (i ≤ count) × (sinceOf t (take count old) number pid ≡ sinceOf t (drop i (take count old)) number pid)
+
+abbrev μ-loop : tie.MeasureT-loop
+μ-loop t count number pid old i₀ i = count - i
+
+loop-holds : tie.Need-loop-holds Inv-loop μ-loop
+loop-holds c = (omega arith, refl)
+
+mul-e : tie.Need-mul-e Inv-loop μ-loop
+mul-e c = search needs
+
+array-copy-out-e : tie.Need-array-copy-out-e Inv-loop μ-loop
+array-copy-out-e c = search needs
+
+is-pair-requires : tie.Need-is-pair-requires Inv-loop μ-loop
+is-pair-requires c κs = search needs
+
+returns : tie.Need-returns Inv-loop μ-loop
+returns c =
+    let loop = c .before .before .before .before .loop in
+    let args = c .before .before .before .before .before .args in
+    sym (loop .inv .1 ∙ since-here (args .t2) (args .count) (loop .i) (omega arith) _ _ _ (c .before .before .before .loop-test .taken) (sym (c .before .is-pair .ensures) ∙ c .if1 .taken))
+
+add-i : tie.Need-add-i Inv-loop μ-loop
+add-i c = search needs
+
+loop-less : tie.Need-loop-less Inv-loop μ-loop
+loop-less c = search needs
+
+loop-again : tie.Need-loop-again Inv-loop μ-loop
+loop-again c =
+    let loop = c .before .before .before .before .loop in
+    let args = c .before .before .before .before .before .args in
+    (omega arith, loop .inv .1 ∙ since-on (args .t2) (args .count) (loop .i) (omega arith) _ _ _ (c .before .before .before .loop-test .taken) (sym (c .before .is-pair .ensures) ∙ c .if1 .left))
+
+returns-2 : tie.Need-returns-2 Inv-loop μ-loop
+returns-2 c =
+    let args = c .before .before .args in
+    sym (c .before .loop .inv .1 ∙ since-none (args .t2) (args .count) (c .before .loop .i) (omega arith) _ _ _ (c .loop-test .left))
+
+pub since-of-spec : {M : Type 1} → statement M
+since-of-spec =
+    tie.close
+    (tie.spec
+    Inv-loop
+    μ-loop
+    loop-holds
+    mul-e
+    array-copy-out-e
+    is-pair-requires
+    returns
+    add-i
+    loop-less
+    loop-again
+    returns-2)

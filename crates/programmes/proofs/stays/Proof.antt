@@ -1,0 +1,76 @@
+-- `programmes::stays` meets its contract. Assumes nothing.
+use borrow.Author.Needs.{needs}
+use mathlib.Core.Path.{_≡_, refl, sym, ap, _∙_}
+use mathlib.Core.Bool.{true, false, true≢false}
+use Prim.Native.Nat.{ℕ, _-_, _≤_, _<_}
+use native.Mathlib.Omega.{arith}
+use lib.ListN.{length, take}
+use borrow.Author.Tests.{not-true, not-false}
+use Rattle.programmes.specs.Moving.{Stayed}
+use Rattle.programmes.proofs.Moves.{stayed-turn}
+use Rattle.programmes.proofs.stays.Statement.{statement}
+use Rattle.programmes.proofs.stays.Tie as tie
+
+abbrev Inv-loop : tie.InvT-loop
+Inv-loop old old-count new-count new half k₀ k = (k ≤ new-count) × Stayed (take old-count old) (take new-count new) half k
+
+abbrev μ-loop : tie.MeasureT-loop
+μ-loop old old-count new-count new half k₀ k = new-count - k
+
+loop-holds : tie.Need-loop-holds Inv-loop μ-loop
+loop-holds c = (omega arith, λ j h. absurd (omega arith))
+
+mul-e : tie.Need-mul-e Inv-loop μ-loop
+mul-e c = search needs
+
+array-copy-out-e : tie.Need-array-copy-out-e Inv-loop μ-loop
+array-copy-out-e c = search needs
+
+add-keeps : tie.Need-add-keeps Inv-loop μ-loop
+add-keeps c = search needs
+
+mul-keeps : tie.Need-mul-keeps Inv-loop μ-loop
+mul-keeps c = search needs
+
+array-read-keeps : tie.Need-array-read-keeps Inv-loop μ-loop
+array-read-keeps c = search needs
+
+keeps-requires : tie.Need-keeps-requires Inv-loop μ-loop
+keeps-requires c κs = search needs
+
+returns : tie.Need-returns Inv-loop μ-loop
+returns c = λ e. absurd (true≢false (sym e))
+
+add-k : tie.Need-add-k Inv-loop μ-loop
+add-k c = search needs
+
+loop-less : tie.Need-loop-less Inv-loop μ-loop
+loop-less c = search needs
+
+loop-again : tie.Need-loop-again Inv-loop μ-loop
+loop-again c =
+    let args = c .before .before .before .before .before .args in
+    let loop = c .before .before .before .before .loop in
+    (omega arith, stayed-turn _ (args .t3) (args .new-count) (args .t5) (loop .k) (c .before .before .before .loop-test .taken) (loop .inv .1) (c .before .keeps .ensures (not-false _ (c .if1 .left))))
+
+returns-2 : tie.Need-returns-2 Inv-loop μ-loop
+returns-2 c = λ e k h. c .before .loop .inv .1 k (omega (arith, h))
+
+pub stays-spec : {M : Type 1} → statement M
+stays-spec =
+    tie.close
+    (tie.spec
+    Inv-loop
+    μ-loop
+    loop-holds
+    mul-e
+    array-copy-out-e
+    add-keeps
+    mul-keeps
+    array-read-keeps
+    keeps-requires
+    returns
+    add-k
+    loop-less
+    loop-again
+    returns-2)

@@ -1,0 +1,23 @@
+-- What the functions that move half-built bytes are given. old and new are the two lists, each of its listed entries, ns the half-built
+-- lengths under the new one.
+--
+--   Placed old new ns == a place with half-built bytes is listed, its PID was listed before, and its bytes fit into its room
+--   Stayed old new ns == and they stand there already
+use mathlib.Core.Path.{_≡_}
+use mathlib.Core.List.{List}
+use Prim.Native.Nat.{ℕ, _≤_, _<_}
+use lib.ListN.{length}
+use Rattle.watches.specs.declared.Entry.{Entry}
+use Rattle.sections.specs.Rooms.{roomOfPlace}
+use Rattle.programmes.specs.Places.{placeOf, pidAt, halfAt}
+
+pub record PlacedAt (old new : List Entry) (ns : List ℕ) (k : ℕ) : Type 0 where
+  pub listed : k < length new
+  pub before : placeOf (pidAt new k) old < length old
+  pub fits : halfAt ns (roomOfPlace k) ≤ 1024
+
+abbrev pub Placed : List Entry → List Entry → List ℕ → Type 0
+Placed old new ns = (k : ℕ) → k < 16 → 0 < halfAt ns (roomOfPlace k) → PlacedAt old new ns k
+
+abbrev pub Stayed : List Entry → List Entry → List ℕ → ℕ → Type 0
+Stayed old new ns n = (k : ℕ) → k < n → 0 < halfAt ns (roomOfPlace k) → placeOf (pidAt new k) old ≡ k
