@@ -31,7 +31,6 @@ module _ (old new : List Entry) (c d : ℕ) (ns : List ℕ) (k : ℕ) (within : 
   abbrev pidHere : ℕ
   pidHere = getD new k noEntry .pid
 
-
   pub half-past : d ≤ k → movedHalf (take c old) (take d new) ns k ≡ 0
   half-past h = rw (length-take-le d new within, le-ltb k d h)
 

@@ -129,7 +129,7 @@ fn read_one(l: Listed, t: u64, old: [Entry; 16], old_count: usize, e: &[u8], k: 
 // The list of the entries e; old is the list just replaced.
 fn read_entries(t: u64, old: [Entry; 16], old_count: usize, e: &[u8]) -> Listed
     requires { ⌜ «old_count» ≤ 16 ⌝ }
-    ensures { λ r. ⌜ r ≡ readOn t (take «old_count» old) [] noneListed (now (e .entry)) ⌝ }
+    ensures { λ r. ⌜ (r ≡ readOn t (take «old_count» old) [] noneListed (now (e .entry))) × (r .count ≤ 16) ⌝ }
 {
     let mut l = Listed {
         count: 0,
@@ -155,7 +155,7 @@ fn read_entries(t: u64, old: [Entry; 16], old_count: usize, e: &[u8]) -> Listed
 // The list of a good PAT section that arrives at t; old is the list just replaced.
 pub fn read_list(t: u64, old: [Entry; 16], old_count: usize, s: &[u8]) -> Listed
     requires { ⌜ «old_count» ≤ 16 ⌝ }
-    ensures { λ r. ⌜ r ≡ listOf t (take «old_count» old) (now (s .entry)) ⌝ }
+    ensures { λ r. ⌜ (r ≡ listOf t (take «old_count» old) (now (s .entry))) × (r .count ≤ 16) ⌝ }
 {
     if s.len() < 12 {
         return read_entries(t, old, old_count, &s[0..0]);

@@ -41,8 +41,7 @@ move-room-requires c κs =
     let pre = c .before .before .before .before .before .before .before .pre in
     let place-of = c .before .before .before .place-of in
     let some : 0 < args .n = omega arith in
-    let there = pre .1 some in
-    (
+    let there = pre .1 some in (
       pre .0 .0,
       pre .0 .1,
       omega (arith, there .1, c .before .before .room-base .ensures, place-fits (args .k) (pre .0 .3)),

@@ -50,13 +50,12 @@ move-place-requires c κs =
     let pre = c .before .before .before .before .before .before .pre in
     let loop-test = c .before .before .before .loop-test in
     let args = c .before .before .before .before .before .before .args in
-    let k16 : loop .k < 16 = omega (arith, pre .0 .2, loop-test .taken) in
-    (
+    let k16 : loop .k < 16 = omega (arith, pre .0 .2, loop-test .taken) in (
       (loop .inv .1, pre .0 .0, pre .0 .1, k16),
       λ some.
-        let q = pre .1 (loop .k) k16 some in
-        let before = rw (pid-listed (args .t4) (args .new-count) (loop .k) (loop-test .taken), length-take-le (args .old-count) (args .old) (omega (arith, pre .0 .1))) at (q .before) in
-        (le-trans before (pre .0 .1), q .fits),
+          let q = pre .1 (loop .k) k16 some in
+          let before = rw (pid-listed (args .t4) (args .new-count) (loop .k) (loop-test .taken), length-take-le (args .old-count) (args .old) (omega (arith, pre .0 .1))) at (q .before) in
+          (le-trans before (pre .0 .1), q .fits),
     )
 
 add-k : tie.Need-add-k Inv-loop μ-loop
@@ -72,8 +71,7 @@ loop-again c =
     let pre = c .before .before .before .before .before .before .before .pre in
     let loop-test = c .before .before .before .before .loop-test in
     let turn = places-turn (take (args .old-count) (args .old)) (take (args .new-count) (args .t4)) (args .t6) (now (args .mem)) (loop .k) (loop .mem) (omega (arith, pre .0 .2, loop-test .taken)) in
-    let pid = pid-listed (args .t4) (args .new-count) (loop .k) (loop-test .taken) in
-    (
+    let pid = pid-listed (args .t4) (args .new-count) (loop .k) (loop-test .taken) in (
       omega arith,
       rw (c .move-place .ensures, length-sets) (loop .inv .1),
       loop .inv .2 ∙ turn ∙ rw (pid, sym (c .move-place .ensures)),

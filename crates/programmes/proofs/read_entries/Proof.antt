@@ -50,7 +50,7 @@ returns c =
     let e = now (args .e) in
     let k : loop .k ≡ length e / 4 = omega (arith, loop .inv .0, loop .inv .1, c .before .loop-test .left) in
     let spare = length-drop (4 * loop .k) e in
-    sym (loop .inv .3 ∙ read-ends _ _ e (loop .k) (loop .l) (omega (arith, k)) (omega (arith, k)) ∙ rw (ne-eqb (length (drop (4 * loop .k) e)) 0 (λ z. c .if1 .taken (omega (arith, k, spare, z)))))
+    (sym (loop .inv .3 ∙ read-ends _ _ e (loop .k) (loop .l) (omega (arith, k)) (omega (arith, k)) ∙ rw (ne-eqb (length (drop (4 * loop .k) e)) 0 (λ z. c .if1 .taken (omega (arith, k, spare, z))))), loop .inv .2)
 
 returns-2 : tie.Need-returns-2 Inv-loop μ-loop
 returns-2 c =
@@ -59,7 +59,7 @@ returns-2 c =
     let e = now (args .e) in
     let k : loop .k ≡ length e / 4 = omega (arith, loop .inv .0, loop .inv .1, c .before .loop-test .left) in
     let spare = length-drop (4 * loop .k) e in
-    sym (loop .inv .3 ∙ read-ends _ _ e (loop .k) (loop .l) (omega (arith, k)) (omega (arith, k)) ∙ rw (eq-eqb (length (drop (4 * loop .k) e)) 0 (omega (arith, k, spare, c .if1 .left))))
+    (sym (loop .inv .3 ∙ read-ends _ _ e (loop .k) (loop .l) (omega (arith, k)) (omega (arith, k)) ∙ rw (eq-eqb (length (drop (4 * loop .k) e)) 0 (omega (arith, k, spare, c .if1 .left)))), loop .inv .2)
 
 pub read-entries-spec : {M : Type 1} → statement M
 read-entries-spec =

@@ -1,6 +1,6 @@
 -- `programmes::read_list` meets its contract. Assumes nothing.
 use borrow.Author.Needs.{needs}
-use mathlib.Core.Path.{_≡_, refl, sym, ap, _∙_}
+use mathlib.Core.Path.{_≡_}
 use Prim.Native.Nat.{ℕ, _-_}
 use native.Mathlib.Omega.{arith}
 use lib.ListN.{length}
@@ -49,7 +49,7 @@ unfolding listOf part
 returns-2 c =
     let args = c .before .before .before .before .args in
     let all : length (now (args .s)) - 4 - 8 ≡ length (now (args .s)) - 12 = omega arith in
-    rw all at (c .read-entries2 .ensures)
+    (rw all at (c .read-entries2 .ensures .0), c .read-entries2 .ensures .1)
 
 pub read-list-spec : {M : Type 1} → statement M
 read-list-spec =

@@ -1,0 +1,122 @@
+-- The machine that is fed bytes goes by whole sections: a section step takes it to the end of the section at hand. Assumes nothing.
+use mathlib.Core.Path.{_≡_, refl, sym, ap, ap₂, _∙_}
+use mathlib.Core.Bool.{Bool, true, false, cond, _&&_, true≢false}
+use mathlib.Core.List.{List, [], _∷_, _++_, append-nil, append-assoc}
+use Prim.Native.Nat.{ℕ, zero, suc, _+_, _≤_, _<_}
+use native.Mathlib.Nat.{add-zero}
+use native.Mathlib.Omega.{arith}
+use lib.Dec.{eqb}
+use lib.ListN.{length, set, take, drop, length-set}
+use lib.Seq.{sets}
+use borrow.Author.Tests.{ne-eqb}
+use Rattle.lists.proofs.Places.{part-set, part-length}
+use Rattle.sections.specs.declared.Stage.{Stage}
+use Rattle.sections.specs.declared.Stage.the-variants.{More, Bad, Whole}
+use Rattle.sections.specs.Rooms.{roomBase, greatestLength, halfBuilt}
+use Rattle.sections.specs.Section.{stageOf, isMore}
+use Rattle.sections.specs.Building.{Mode, going, done, fresh, stopped, Finished, badLength, whole, Job, laidByte, ended, settled, inMode, fedBy, fed}
+use Rattle.sections.specs.Steps.{takenBy, laidIn}
+use Rattle.sections.proofs.Stages.{half-short}
+
+-- modes in which bytes go to a section
+pub data Active : Mode → Type 0 where
+  goes : Active going
+  news : Active fresh
+
+-- the first byte is no stuffing
+abbrev pub Starts : ℕ → List ℕ → Type 0
+Starts n [] = Unit {0}
+Starts n (b ∷ s) = (eqb n 0 && eqb b 0xFF) ≡ false
+
+-- a byte goes to the section at hand
+takes : {m : Mode} → Active m → (r b : ℕ) (j : Job) → (eqb (j .half) 0 && eqb b 0xFF) ≡ false → fedBy m r b j ≡ settled r (laidByte r b j)
+takes goes r b j e = refl
+takes news r b j e = rw e
+
+within : (n : ℕ) (s : List ℕ) → Starts (n + 1) s
+within n [] = tt
+within n (b ∷ s) = rw (ne-eqb (n + 1) 0 (λ z. omega arith))
+
+-- the bytes s laid behind those of the section at hand, whose bytes are then h
+abbrev pub carried : ℕ → Job → List ℕ → ℕ → Job
+carried r j s k = record { mode = j .mode; memory = laidIn r (j .memory) (j .half) (take k s); half = j .half + k; finished = j .finished }
+
+abbrev pub sectionOf : ℕ → Job → List ℕ → ℕ → List ℕ
+sectionOf r j s k = halfBuilt (j .memory) r (j .half) ++ take k s
+
+abbrev pub takenOf : ℕ → Job → List ℕ → ℕ
+takenOf r j s = takenBy (greatestLength r) (halfBuilt (j .memory) r (j .half)) s
+
+-- A SECTION STEP
+abbrev pub stepped : ℕ → Job → List ℕ → ℕ → Job
+stepped r j s k = ended (stageOf (greatestLength r) (sectionOf r j s k)) (sectionOf r j s k) (carried r j s k)
+
+pub record Ready (r : ℕ) (j : Job) : Type 0 where
+  pub active : Active (j .mode)
+  pub room : roomBase r + greatestLength r + 3 ≤ length (j .memory)
+  pub more : isMore (stageOf (greatestLength r) (halfBuilt (j .memory) r (j .half))) ≡ true
+
+more-is : (g : Stage) → isMore g ≡ true → g ≡ More
+more-is More e = refl
+more-is Bad e = absurd (true≢false (sym e))
+more-is Whole e = absurd (true≢false (sym e))
+
+-- the section at hand with one byte more
+module _ (r : ℕ) (j : Job) (b : ℕ) (q : Ready r j) where
+  inside : roomBase r + j .half < length (j .memory)
+  inside = omega (arith, q .room, half-short (j .memory) (roomBase r) (greatestLength r) (j .half) (q .room) (q .more))
+
+  grown : halfBuilt (laidByte r b j .memory) r (j .half + 1) ≡ halfBuilt (j .memory) r (j .half) ++ (b ∷ [])
+  grown = part-set (j .memory) (roomBase r) (j .half) b inside
+
+  ready-next : stageOf (greatestLength r) (halfBuilt (j .memory) r (j .half) ++ (b ∷ [])) ≡ More → Ready r (laidByte r b j)
+  ready-next e =
+      record {
+        active = q .active;
+        room = rw (length-set (j .memory) (roomBase r + j .half) b) (q .room);
+        more = ap (λ h. isMore (stageOf (greatestLength r) h)) grown ∙ ap isMore e;
+      }
+
+  -- two ways to lay the bytes behind it
+  carried-on : (s : List ℕ) (k : ℕ) → carried r (laidByte r b j) s k ≡ carried r j (b ∷ s) (suc k)
+  carried-on s k =
+      let i : roomBase r + (j .half + 1) ≡ suc (roomBase r + j .half) = omega arith in
+      let n : j .half + 1 + k ≡ j .half + suc k = omega arith in
+      rw (i, n)
+
+  section-on : (s : List ℕ) (k : ℕ) → sectionOf r (laidByte r b j) s k ≡ sectionOf r j (b ∷ s) (suc k)
+  section-on s k = ap (λ h. h ++ take k s) grown ∙ append-assoc (halfBuilt (j .memory) r (j .half)) (b ∷ []) (take k s)
+
+  stepped-on : (s : List ℕ) (k : ℕ) → stepped r (laidByte r b j) s k ≡ stepped r j (b ∷ s) (suc k)
+  stepped-on s k = ap₂ (λ h c. ended (stageOf (greatestLength r) h) h c) (section-on s k) (carried-on s k)
+
+pub chunk : (r : ℕ) (j : Job) (s : List ℕ) → Ready r j → Starts (j .half) s → fed r j s ≡ fed r (stepped r j s (takenOf r j s)) (drop (takenOf r j s) s)
+unfolding fed takenBy
+chunk r j [] q z =
+    let e : halfBuilt (j .memory) r (j .half) ++ [] ≡ halfBuilt (j .memory) r (j .half) = append-nil (halfBuilt (j .memory) r (j .half)) in
+    rw (e, more-is (stageOf (greatestLength r) (halfBuilt (j .memory) r (j .half))) (q .more), add-zero (j .half))
+chunk r j (b ∷ s) q z =
+    ap (λ k. fed r k s) (takes (q .active) r b j z ∙ ap (λ h. ended (stageOf top h) h next) (grown r j b q))
+    ∙ go (stageOf top (so ++ (b ∷ []))) refl (λ e. chunk r next s (ready-next r j b q e) (within (j .half) s))
+  where
+    top : ℕ
+    top = greatestLength r
+
+    so : List ℕ
+    so = halfBuilt (j .memory) r (j .half)
+
+    next : Job
+    next = laidByte r b j
+
+    rest : ℕ
+    rest = takenBy top (so ++ (b ∷ [])) s
+
+    go : (g : Stage) → stageOf top (so ++ (b ∷ [])) ≡ g
+        → (stageOf top (so ++ (b ∷ [])) ≡ More → fed r next s ≡ fed r (stepped r next s (takenOf r next s)) (drop (takenOf r next s) s))
+        → fed r (ended g (so ++ (b ∷ [])) next) s ≡ fed r (stepped r j (b ∷ s) (cond (isMore g) (suc rest) 1)) (drop (cond (isMore g) (suc rest) 1) (b ∷ s))
+    go More e ih =
+        ih e
+        ∙ ap (λ h. fed r (stepped r next s (takenBy top h s)) (drop (takenBy top h s) s)) (grown r j b q)
+        ∙ ap (λ c. fed r c (drop rest s)) (stepped-on r j b q s rest)
+    go Bad e ih = ap (λ g. fed r (ended g (so ++ (b ∷ [])) next) s) (sym e)
+    go Whole e ih = ap (λ g. fed r (ended g (so ++ (b ∷ [])) next) s) (sym e)
