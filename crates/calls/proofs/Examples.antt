@@ -15,7 +15,7 @@ use Rattle.programmes.specs.Places.{placeOf}
 use Rattle.calls.specs.declared.Core.{Core}
 use Rattle.calls.specs.Cores.{Held, fixedRoom, roomFor, opened, openedState}
 use Rattle.calls.specs.Sync.{syncedOf, withSync}
-use Rattle.calls.specs.Steps.{touched, absorbedAll, payloadTaken, step1}
+use Rattle.calls.specs.Steps.{touched, absorbedAll, sectionsTaken, step1}
 use Rattle.calls.specs.Calls.{packetRefusal}
 
 abbrev held : Held
@@ -42,7 +42,7 @@ pub record Table : Type 0 where
   pub three-before-four : packetRefusal (openedState 0) (suc (2 ^ 62)) (replicate 188 0) (replicate 8192 0) [] 95 ≡ 3
 
 pub table : Table
-unfolding part headerOf countedOf stageOf fed built crcWrong wholeOutcome placeOf fixedRoom roomFor absorbedAll payloadTaken step1 packetRefusal
+unfolding part headerOf countedOf stageOf fed built crcWrong wholeOutcome placeOf fixedRoom roomFor absorbedAll sectionsTaken step1 packetRefusal
 table =
     record {
       no-section-ends-no-gap = refl;

@@ -5,14 +5,17 @@
 --   openCall t counters              == opening
 --   packetCall s t p counters m room == a packet call, for an event list of `room` records
 --   clockCall s t m room             == a clock call
+--   openAnswer, answerOf             == what is answered by value: refusal number, number of events, state
+--   handedOver es old                == the event list after a call: its events, then the records as they were
 use Prim.Native.Nat.{ℕ}
 use mathlib.Core.Bool.{Bool, true, false, cond, not, _&&_}
 use mathlib.Core.List.{List, [], _∷_, _++_}
 use lib.Dec.{leb, ltb, eqb}
-use lib.ListN.{length, replicate}
+use lib.ListN.{length, drop, replicate}
 use Rattle.events.specs.declared.Event.{Event}
 use Rattle.header.specs.Header.{packetSize}
 use Rattle.calls.specs.declared.State.{State}
+use Rattle.calls.specs.declared.Answer.{Answer}
 use Rattle.calls.specs.Cores.{Held, lateOf, opened, openedState}
 use Rattle.calls.specs.Steps.{Step, step1}
 use Rattle.calls.specs.Sound.{timeSound, stateSound, byteSound}
@@ -101,3 +104,13 @@ unfoldable pub clockCall : State → ℕ → List ℕ → ℕ → Result
 clockCall s t m room =
     let accepted = acceptedClock s t [] m in
     cond (eqb (clockRefusal s t m room) 0) accepted (refusedWith (clockRefusal s t m room) s [] m)
+
+-- WHAT IS HANDED BACK: an answer by value, and the event list
+abbrev pub openAnswer : ℕ → List ℕ → Answer
+openAnswer t counters = record { refusal = openRefusal t counters; n = 0; state = openState t counters }
+
+abbrev pub answerOf : Result → Answer
+answerOf x = record { refusal = x .refusal; n = length (x .events); state = x .state }
+
+abbrev pub handedOver : List Event → List Event → List Event
+handedOver es old = es ++ drop (length es) old

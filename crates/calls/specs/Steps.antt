@@ -10,7 +10,8 @@
 --   listEvents        == a good PAT with a bad list: 0x0009 cause 4
 --   absorbed          == what one finished section does, by its outcome
 --   absorbedAll       == the finished sections of a payload, one after the other
---   payloadTaken      == the payload is handed to section building
+--   sectionsTaken     == a payload s is handed to section building in the room r
+--   payloadTaken      == the packet's is, where sections of its PID are built
 --   step5 .. step1    == each step, and what follows it
 use Prim.Native.Nat.{ℕ}
 use mathlib.Core.Bool.{Bool, true, false, cond, _&&_, _||_}
@@ -121,13 +122,16 @@ absorbedAll t r pid (f ∷ fs) h =
 abbrev pub builtIn : ℕ → Job → Held → Held
 builtIn r j h = record { core = withHalf (set (h .core .half) r (j .half)) (h .core); memory = j .memory }
 
-abbrev pub payloadJob : ℕ → List ℕ → Held → Job
-payloadJob r p h = built r (h .memory) (halfAt (h .core .half) r) (unitStart p) (payloadOf p)
+abbrev pub jobOf : ℕ → Bool → List ℕ → Held → Job
+jobOf r start s h = built r (h .memory) (halfAt (h .core .half) r) start s
 
-unfoldable pub payloadTaken : ℕ → ℕ → List ℕ → Held → Absorbed
+unfoldable pub sectionsTaken : ℕ → ℕ → ℕ → Bool → List ℕ → Held → Absorbed
+sectionsTaken t r pid start s h = absorbedAll t r pid (jobOf r start s h .finished) (builtIn r (jobOf r start s h) h)
+
+abbrev pub payloadTaken : ℕ → ℕ → List ℕ → Held → Absorbed
 payloadTaken t r p h =
-    let j = payloadJob r p h in
-    cond (ltb r roomCount) (absorbedAll t r (pidOf p) (j .finished) (builtIn r j h)) (record { held = h; events = [] })
+    let a = sectionsTaken t r (pidOf p) (unitStart p) (payloadOf p) h in
+    cond (ltb r roomCount) a (record { held = h; events = [] })
 
 -- 5. SCRAMBLING
 abbrev pub scramblingFault : Core → ℕ → List ℕ

@@ -21,7 +21,7 @@ use Rattle.programmes.specs.Listing.{isNumber, sinceOf, readOn, listOf}
 use Rattle.programmes.specs.Places.{placeOf, movedFrom, movedPlaces}
 use Rattle.calls.specs.declared.Core.{Core}
 use Rattle.calls.specs.Cores.{fixedRoom, roomFor, lateOf}
-use Rattle.calls.specs.Steps.{absorbedAll, payloadTaken, step1}
+use Rattle.calls.specs.Steps.{absorbedAll, sectionsTaken, step1}
 use Rattle.calls.specs.Sound.{timesSound, numberAmong, entriesSound, roomsFrom, stateSound}
 use Rattle.calls.specs.Calls.{packetRefusal, clockRefusal, packetCall, clockCall}
 use Rattle.examples.specs.Packets.{packetOf, entry, patOf, starting, resultsFrom, results, refusals, events, cores}
@@ -80,7 +80,7 @@ pub record Table : Type 0 where
   pub p10-watched : map (λ (c : Core). c .count) (cores (seventeen ∷ [])) ≡ 16 ∷ []
 
 pub table : Table
-unfolding resultsFrom packetCall clockCall packetRefusal clockRefusal stateSound timesSound entriesSound numberAmong roomsFrom lateOf tablesLate entriesLate roomFor fixedRoom placeOf step1 payloadTaken absorbedAll built fed stageOf part wholeOutcome crcWrong crcOf crcFeed crcStep bits bitsOf headerOf countedOf listOf readOn isNumber sinceOf movedFrom movedPlaces severityOf
+unfolding resultsFrom packetCall clockCall packetRefusal clockRefusal stateSound timesSound entriesSound numberAmong roomsFrom lateOf tablesLate entriesLate roomFor fixedRoom placeOf step1 sectionsTaken absorbedAll built fed stageOf part wholeOutcome crcWrong crcOf crcFeed crcStep bits bitsOf headerOf countedOf listOf readOn isNumber sinceOf movedFrom movedPlaces severityOf
 table =
     record {
       p1 = refl;

@@ -21,7 +21,7 @@ use Rattle.programmes.specs.Places.{placeOf, movedFrom, movedPlaces}
 use Rattle.calls.specs.declared.Core.{Core}
 use Rattle.calls.specs.declared.State.{State}
 use Rattle.calls.specs.Cores.{fixedRoom, roomFor, lateOf, opened, openedState}
-use Rattle.calls.specs.Steps.{absorbedAll, payloadTaken, step1}
+use Rattle.calls.specs.Steps.{absorbedAll, sectionsTaken, step1}
 use Rattle.calls.specs.Sound.{timesSound, numberAmong, entriesSound, roomsFrom, stateSound}
 use Rattle.calls.specs.Calls.{openRefusal, packetRefusal, clockRefusal, packetCall, clockCall, tableSize, leastRoom}
 use Rattle.examples.specs.Packets.{stuffed, packetOf, adapted, sealed, entry, patOf, pmtOf, starting, resultsFrom, results, refusals, events, cores}
@@ -70,7 +70,7 @@ pub record Table : Type 0 where
   pub spare-bytes : events (patAt 1 0 (entry 1 0x100 ++ (0 ∷ [])) ∷ []) ≡ (eventAt 1 0x0009 4 0 ∷ []) ∷ []
 
 pub table : Table
-unfolding resultsFrom packetCall clockCall packetRefusal clockRefusal openRefusal stateSound timesSound entriesSound numberAmong roomsFrom lateOf tablesLate entriesLate roomFor fixedRoom placeOf step1 payloadTaken absorbedAll built fed stageOf part wholeOutcome crcWrong crcOf crcFeed crcStep bits bitsOf headerOf countedOf listOf readOn isNumber sinceOf movedFrom movedPlaces
+unfolding resultsFrom packetCall clockCall packetRefusal clockRefusal openRefusal stateSound timesSound entriesSound numberAmong roomsFrom lateOf tablesLate entriesLate roomFor fixedRoom placeOf step1 sectionsTaken absorbedAll built fed stageOf part wholeOutcome crcWrong crcOf crcFeed crcStep bits bitsOf headerOf countedOf listOf readOn isNumber sinceOf movedFrom movedPlaces
 table =
     record {
       index-and-pages = refl;

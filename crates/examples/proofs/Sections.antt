@@ -21,7 +21,7 @@ use Rattle.programmes.specs.Places.{placeOf, movedFrom, movedPlaces}
 use Rattle.calls.specs.declared.Core.{Core}
 use Rattle.calls.specs.declared.State.{State}
 use Rattle.calls.specs.Cores.{fixedRoom, roomFor, lateOf, opened, openedState}
-use Rattle.calls.specs.Steps.{absorbedAll, payloadTaken, step1}
+use Rattle.calls.specs.Steps.{absorbedAll, sectionsTaken, step1}
 use Rattle.calls.specs.Sound.{timesSound, numberAmong, entriesSound, roomsFrom, stateSound}
 use Rattle.calls.specs.Calls.{openRefusal, packetRefusal, clockRefusal, packetCall, clockCall, tableSize, leastRoom}
 use Rattle.examples.specs.Packets.{stuffed, packetOf, adapted, sealed, entry, patOf, pmtOf, starting, resultsFrom, results, refusals, events, cores}
@@ -81,7 +81,7 @@ pub record Table : Type 0 where
   pub not-yet-current : patSince (begun 5 0 (starting (sealed (0x00 ∷ 0xB0 ∷ 0x0D ∷ 0x00 ∷ 0x01 ∷ 0xC0 ∷ 0x00 ∷ 0x00 ∷ entry 1 0x100))) ∷ []) ≡ 0 ∷ []
 
 pub table : Table
-unfolding resultsFrom packetCall clockCall packetRefusal clockRefusal openRefusal stateSound timesSound entriesSound numberAmong roomsFrom lateOf tablesLate entriesLate roomFor fixedRoom placeOf step1 payloadTaken absorbedAll built fed stageOf part wholeOutcome crcWrong crcOf crcFeed crcStep bits bitsOf headerOf countedOf listOf readOn isNumber sinceOf movedFrom movedPlaces
+unfolding resultsFrom packetCall clockCall packetRefusal clockRefusal openRefusal stateSound timesSound entriesSound numberAmong roomsFrom lateOf tablesLate entriesLate roomFor fixedRoom placeOf step1 sectionsTaken absorbedAll built fed stageOf part wholeOutcome crcWrong crcOf crcFeed crcStep bits bitsOf headerOf countedOf listOf readOn isNumber sinceOf movedFrom movedPlaces
 table =
     record {
       judged-with-the-third-byte = refl;

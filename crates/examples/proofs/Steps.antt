@@ -21,7 +21,7 @@ use Rattle.programmes.specs.Places.{placeOf, movedFrom, movedPlaces}
 use Rattle.calls.specs.declared.Core.{Core}
 use Rattle.calls.specs.declared.State.{State}
 use Rattle.calls.specs.Cores.{fixedRoom, roomFor, lateOf, opened, openedState}
-use Rattle.calls.specs.Steps.{absorbedAll, payloadTaken, step1}
+use Rattle.calls.specs.Steps.{absorbedAll, sectionsTaken, step1}
 use Rattle.calls.specs.Sound.{timesSound, numberAmong, entriesSound, roomsFrom, stateSound}
 use Rattle.calls.specs.Calls.{openRefusal, packetRefusal, clockRefusal, packetCall, clockCall, tableSize, leastRoom}
 use Rattle.examples.specs.Packets.{stuffed, packetOf, adapted, sealed, entry, patOf, pmtOf, starting, resultsFrom, results, refusals, events, cores}
@@ -94,7 +94,7 @@ pub record Table : Type 0 where
   pub table-before-time : openRefusal (suc (2 ^ 62)) [] ∷ openRefusal (suc (2 ^ 62)) zeros ∷ openRefusal (2 ^ 62) zeros ∷ [] ≡ 2 ∷ 4 ∷ 0 ∷ []
 
 pub table : Table
-unfolding resultsFrom packetCall clockCall packetRefusal clockRefusal openRefusal stateSound timesSound entriesSound numberAmong roomsFrom lateOf tablesLate entriesLate roomFor fixedRoom placeOf step1 payloadTaken absorbedAll built fed stageOf part wholeOutcome crcWrong crcOf crcFeed crcStep bits bitsOf headerOf countedOf listOf readOn isNumber sinceOf movedFrom movedPlaces
+unfolding resultsFrom packetCall clockCall packetRefusal clockRefusal openRefusal stateSound timesSound entriesSound numberAmong roomsFrom lateOf tablesLate entriesLate roomFor fixedRoom placeOf step1 sectionsTaken absorbedAll built fed stageOf part wholeOutcome crcWrong crcOf crcFeed crcStep bits bitsOf headerOf countedOf listOf readOn isNumber sinceOf movedFrom movedPlaces
 table =
     record {
       repeat-with-wrong-length = refl;
