@@ -2,3 +2,4 @@ pub mod Boundary
 pub mod Sections
 pub mod Programmes
 pub mod Steps
+pub mod Tables

@@ -5,6 +5,7 @@
 --   sealed s            == a section with its CRC_32
 --   patOf es            == a PAT section of the entries' bytes es; entry n q: the bytes of one entry
 --   pmtOf n             == a PMT section of the programme n
+--   longTable id        == a section of another table_id, indicator 1, with its CRC_32; shortTable id n: indicator 0, section_length n
 --   starting s          == the payload of a packet that the section s begins
 --   results, refusals, events, cores == of the calls of a log from an opening at 0, one by one
 use Prim.Native.Nat.{ℕ, _+_, _-_, _*_, _/_, _%_}
@@ -41,6 +42,12 @@ patOf es = sealed (0x00 ∷ (0xB0 + (length es + 9) / 256) ∷ ((length es + 9) 
 
 abbrev pub pmtOf : ℕ → List ℕ
 pmtOf n = sealed (0x02 ∷ 0xB0 ∷ 0x0D ∷ (n / 256) ∷ (n % 256) ∷ 0xC1 ∷ 0x00 ∷ 0x00 ∷ 0xFF ∷ 0xFF ∷ 0xF0 ∷ 0x00 ∷ [])
+
+abbrev pub longTable : ℕ → List ℕ
+longTable id = sealed (id ∷ 0xB0 ∷ 0x09 ∷ 0x00 ∷ 0x01 ∷ 0xC1 ∷ 0x00 ∷ 0x00 ∷ [])
+
+abbrev pub shortTable : ℕ → ℕ → List ℕ
+shortTable id n = id ∷ 0x70 ∷ n ∷ replicate n 0x00
 
 abbrev pub starting : List ℕ → List ℕ
 starting s = 0 ∷ s
