@@ -1,3 +1,6 @@
 pub mod Stages
 pub mod Cuts
 pub mod Chunks
+pub mod Counts
+pub mod Jobs
+pub mod Takes

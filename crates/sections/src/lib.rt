@@ -68,7 +68,7 @@ pub fn room_base(room: usize) -> usize
 }
 
 // The greatest section_length in a room.
-fn greatest_length(room: usize) -> usize
+pub fn greatest_length(room: usize) -> usize
     ensures { λ r. ⌜ r ≡ greatestLength room ⌝ }
 {
     if room == EIT_ROOM {
@@ -108,7 +108,8 @@ pub fn stage_of(s: &[u8], top: usize) -> Stage
     Stage::Whole
 }
 
-fn is_more(g: Stage) -> bool
+// Whether a section is still to be built on.
+pub fn is_more(g: Stage) -> bool
     ensures { λ r. ⌜ r ≡ isMore g ⌝ }
 {
     match g {
