@@ -7,6 +7,7 @@ use native.Mathlib.Omega.{arith}
 use lib.Dec.{leb, eqb}
 use lib.ListN.{getD}
 use borrow.Author.Tests.{leb-true, eqb-true}
+use Rattle.lists.proofs.Tests.{cond-either}
 use Rattle.header.specs.Header.{packetSize, rightLength, payloadPlace, payloadAt, controlOf, adaptationLength, counterOf}
 
 pub payload-within : (p : List ℕ) → payloadAt p ≤ packetSize
@@ -29,6 +30,14 @@ payload-within p = go (controlOf p) (adaptationLength p)
 
     go : (c n : ℕ) → payloadPlace c n ≤ packetSize
     go c n = place c n (eqb c 1) (eqb c 2) (eqb c 3) (leb n 182) refl refl refl
+
+-- and begins behind the header
+pub payload-from : (p : List ℕ) → 4 ≤ payloadAt p
+payload-from p =
+    let control = controlOf p in
+    let length = adaptationLength p in
+    cond-either (λ n. 4 ≤ n) (eqb control 1 || (eqb control 3 && rightLength control length)) (cond (eqb control 1) 4 (5 + length)) packetSize
+    (cond-either (λ n. 4 ≤ n) (eqb control 1) 4 (5 + length) (omega arith) (omega arith)) (omega arith)
 
 pub counter-small : (p : List ℕ) → counterOf p < 16
 counter-small p = omega arith

@@ -103,7 +103,7 @@ fn late_row(
 ) -> usize
     requires { ⌜ (n < 96) × (384 ≤ length (now list)) × (since ≤ latestTime) × (limit ≤ latestTime) ⌝ }
     ensures { λ r. ⌜ (r ≡ n + length (lateEvents (limit ∷ []) fault id p t since))
-        × (now (list .exit) ≡ eventsLaid (now (list .entry)) n (lateEvents (limit ∷ []) fault id p t since)) ⌝ }
+        × (now (list .exit) ≡ eventsLaid (now (list .entry)) n (lateEvents (limit ∷ []) fault id p t since)) × (id < 65536) ⌝ }
 {
     let stamp = since + limit;
     if falls_due(stamp, p, t) {
@@ -128,6 +128,7 @@ pub fn late_tables(list: &mut [u64], n: usize, p: u64, t: u64, since: [u64; 5]) 
 }
 
 // The late events of the listed programmes, at most sixteen, laid from the place n on; the next place.
+// Their ids are programme numbers, of sixteen bits.
 pub fn late_entries(
     list: &mut [u64],
     n: usize,
@@ -139,7 +140,8 @@ pub fn late_entries(
     requires { ⌜ (n + 16 ≤ 96) × (384 ≤ length (now list)) × (count ≤ 16) ⌝ }
     requires { ⌜ ((k : ℕ) → k < count → getD entries k noEntry .since ≤ latestTime) ⌝ }
     ensures { λ r. ⌜ (r ≡ n + length (entriesLate p t (take count entries)))
-        × (now (list .exit) ≡ eventsLaid (now (list .entry)) n (entriesLate p t (take count entries))) ⌝ }
+        × (now (list .exit) ≡ eventsLaid (now (list .entry)) n (entriesLate p t (take count entries)))
+        × ((k : ℕ) → k < count → getD entries k noEntry .number < 65536) ⌝ }
 {
     let mut m = n;
     let mut k: usize = 0;

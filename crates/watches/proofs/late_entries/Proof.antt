@@ -1,9 +1,10 @@
 -- `watches::late_entries` meets its contract. Assumes nothing.
 use borrow.Author.Needs.{needs}
 use mathlib.Core.Path.{_≡_, refl, sym, ap, _∙_}
-use Prim.Native.Nat.{_+_, _-_, _≤_, _<_}
+use Prim.Native.Nat.{ℕ, _+_, _-_, _≤_, _<_}
 use native.Mathlib.Omega.{arith}
-use lib.ListN.{length, take}
+use borrow.Author.Count.{below-more}
+use lib.ListN.{length, getD, take}
 use Rattle.lists.proofs.Laying.{laid-none, laid-length, laid-turn}
 use Rattle.events.specs.Events.{numbersOf, eventsLaid}
 use Rattle.watches.specs.Tables.{noEntry}
@@ -14,13 +15,16 @@ use Rattle.watches.proofs.late_entries.Tie as tie
 
 abbrev Inv-loop : tie.InvT-loop
 Inv-loop list₀ n p t count entries m₀ k₀ list m k =
-    (k ≤ count) × (m ≡ n + length (entriesLate p t (take k entries))) × (list ≡ eventsLaid list₀ n (entriesLate p t (take k entries)))
+    (k ≤ count)
+    × (m ≡ n + length (entriesLate p t (take k entries)))
+    × (list ≡ eventsLaid list₀ n (entriesLate p t (take k entries)))
+    × ((i : ℕ) → i < k → getD entries i noEntry .number < 65536)
 
 abbrev μ-loop : tie.MeasureT-loop
 μ-loop list₀ n p t count entries m₀ k₀ list m k = count - k
 
 loop-holds : tie.Need-loop-holds Inv-loop μ-loop
-loop-holds c = rw (entries-none _ _) (omega arith, omega arith, sym (laid-none _ _ _ _))
+loop-holds c = rw (entries-none _ _) (omega arith, omega arith, sym (laid-none _ _ _ _), λ i h. absurd (omega arith))
 
 mul-e : tie.Need-mul-e Inv-loop μ-loop
 mul-e c = search needs
@@ -50,7 +54,7 @@ loop-again c =
     let loop = c .before .before .before .before .before .before .loop in
     let late-row = c .before .before .late-row in
     let w = laid-turn numbersOf 4 (λ e. refl) _ _ _ _ _ _ _ _ (loop .inv .1) (loop .inv .2) (late-row .ensures .0) (late-row .ensures .1) in
-    rw (entries-turn _ _ (loop .k) (c .before .before .before .before .before .before .before .before .args .t5) noEntry (omega arith)) (omega arith, w .0, w .1)
+    rw (entries-turn _ _ (loop .k) (c .before .before .before .before .before .before .before .before .args .t5) noEntry (omega arith)) (omega arith, w .0, w .1, below-more _ _ (loop .inv .3) (late-row .ensures .2))
 
 same-length : tie.Need-same-length Inv-loop μ-loop
 same-length c = ap length (c .before .loop .inv .2) ∙ laid-length _ _ _ _ _
@@ -58,7 +62,7 @@ same-length c = ap length (c .before .loop .inv .2) ∙ laid-length _ _ _ _ _
 returns : tie.Need-returns Inv-loop μ-loop
 returns c =
     let e : c .before .loop .k ≡ c .before .before .before .args .count = omega arith in
-    (rw e at (c .before .loop .inv .1), rw e at (c .before .loop .inv .2))
+    (rw e at (c .before .loop .inv .1), rw e at (c .before .loop .inv .2), rw e at (c .before .loop .inv .3))
 
 pub late-entries-spec : {M : Type 1} → statement M
 late-entries-spec =

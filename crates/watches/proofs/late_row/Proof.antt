@@ -20,11 +20,12 @@ same-length c = search needs
 
 returns : tie.Need-returns
 returns c =
-    rw (sym (c .before .before .before .before .before .falls-due .ensures) ∙ c .before .before .before .before .if1 .taken) (c .before .before .put .ensures)
+    let put = c .before .before .put in
+    rw (sym (c .before .before .before .before .before .falls-due .ensures) ∙ c .before .before .before .before .if1 .taken) (put .ensures .0, put .ensures .1, search needs)
 
 returns-2 : tie.Need-returns-2
 unfolding laid
-returns-2 c = rw (sym (c .before .falls-due .ensures) ∙ c .if1 .left) (omega arith, refl)
+returns-2 c = rw (sym (c .before .falls-due .ensures) ∙ c .if1 .left) (omega arith, refl, search needs)
 
 pub late-row-spec : {M : Type 1} → statement M
 late-row-spec =

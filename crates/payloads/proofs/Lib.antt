@@ -1,0 +1,6 @@
+pub mod Apart
+pub mod Actions
+pub mod Kept
+pub mod Sections
+pub mod Payloads
+pub mod Soundness

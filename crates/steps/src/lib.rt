@@ -1,0 +1,394 @@
+// One packet judged: steps 1 to 5 of document 01, "Judging one packet". Events have the call's time as
+// stamp and the packet's 13 PID bits as id.
+use calls::Core;
+use header::Header;
+use watches::Entry;
+ghost use mathlib.Core.Path.{_≡_};
+ghost use mathlib.Core.Bool.{cond};
+ghost use mathlib.Core.List.{List, [], _∷_};
+ghost use Prim.Native.Nat.{ℕ, _+_, _<_, _≤_};
+ghost use lib.ListN.{length, set, take};
+ghost use Rattle.events.specs.Events.{eventsLaid};
+ghost use Rattle.events.specs.Faults.{continuityError};
+ghost use Rattle.watches.specs.Tables.{fixedTables};
+ghost use Rattle.header.specs.Header.{pidOf, headerOf};
+ghost use Rattle.programmes.specs.Listing.{mostListed};
+ghost use Rattle.programmes.specs.Places.{isListed};
+ghost use Rattle.calls.specs.Cores.{fixedRoom, listRoom, roomFor, withHalf};
+ghost use Rattle.calls.specs.Sync.{syncedOf, inSync, whileLost};
+ghost use Rattle.calls.specs.Steps.{scramblingEvents, step1, step2, step4, step5};
+ghost use Rattle.payloads.specs.Taking.{held};
+ghost use Rattle.steps.specs.Judging.{Ready, Judgeable, Done, faultEvents, Caught};
+
+// The core after a packet, and the next place for an event.
+pub struct Stepped {
+    pub core: Core,
+    pub n: usize,
+}
+
+// The core after step 1, the next place for an event, and whether the packet is judged further.
+struct Synced {
+    core: Core,
+    n: usize,
+    further: bool,
+}
+
+const SYNC_BYTE: u8 = 0x47;
+
+const NULL_PID: u16 = 0x1FFF;
+
+const PAT_PID: u16 = 0x0000;
+
+const FIXED_ROOMS: usize = 5;
+
+const ROOM_COUNT: usize = 21;
+
+const PAT_ERROR: u16 = 0x0009;
+
+const SYNC_LOSS: u16 = 0x000C;
+
+const SYNC_BYTE_ERROR: u16 = 0x000D;
+
+const CONTINUITY_ERROR: u16 = 0x000E;
+
+const PMT_ERROR: u16 = 0x000F;
+
+const TRANSPORT_ERROR: u16 = 0x0011;
+
+const NO_CAUSE: u8 = 0;
+
+const SCRAMBLED: u8 = 3;
+
+// The place of a PID in the table of fixed watches, or 5.
+fn fixed_room(pid: u16) -> usize
+    ensures { λ r. ⌜ r ≡ fixedRoom pid fixedTables ⌝ }
+{
+    if pid == PAT_PID {
+        return 0;
+    }
+    if pid == 0x0010 {
+        return 1;
+    }
+    if pid == 0x0011 {
+        return 2;
+    }
+    if pid == 0x0012 {
+        return 3;
+    }
+    if pid == 0x0014 {
+        return 4;
+    }
+    FIXED_ROOMS
+}
+
+// The room of a PID by its first place in the list, or 21: no section of it is built.
+fn list_room(entries: [Entry; 16], count: usize, pid: u16) -> usize
+    requires { ⌜ count ≤ mostListed ⌝ }
+    ensures { λ r. ⌜ r ≡ listRoom pid (take count entries) ⌝ }
+{
+    let place = programmes::place_of(entries, count, pid);
+    if place < count {
+        return FIXED_ROOMS + place;
+    }
+    ROOM_COUNT
+}
+
+// Whether a PID is that of a listed programme.
+fn is_listed(entries: [Entry; 16], count: usize, pid: u16) -> bool
+    requires { ⌜ count ≤ mostListed ⌝ }
+    ensures { λ r. ⌜ r ≡ isListed pid (take count entries) ⌝ }
+{
+    programmes::place_of(entries, count, pid) < count
+}
+
+// The room where sections of a PID are built, or 21.
+fn room_for(core: Core, pid: u16) -> usize
+    requires { ⌜ core .count ≤ mostListed ⌝ }
+    ensures { λ r. ⌜ r ≡ roomFor core pid ⌝ }
+{
+    let fixed = fixed_room(pid);
+    if fixed < FIXED_ROOMS {
+        return fixed;
+    }
+    let entries = core.entries;
+    list_room(entries, core.count, pid)
+}
+
+// The half-built lengths with that of a room, if it is one, set to 0.
+fn empty_room(half: [u16; 21], room: usize) -> [u16; 21]
+    ensures { λ r. ⌜ r ≡ set half room 0 ⌝ }
+{
+    if ROOM_COUNT <= room {
+        return half;
+    }
+    let mut emptied = half;
+    emptied[room] = 0;
+    emptied
+}
+
+// The half-built section of a room dropped, unless it is kept.
+fn keep_room(core: Core, room: usize, keep: bool) -> Core
+    ensures { λ r. ⌜ r ≡ cond keep core (withHalf (set (core .half) room 0) core) ⌝ }
+{
+    if keep {
+        return core;
+    }
+    let mut dropped = core;
+    let half = core.half;
+    let emptied = empty_room(half, room);
+    dropped.half = emptied;
+    dropped
+}
+
+// Step 5 on a packet that is scrambled: its event, if it has one.
+fn judge_scrambled(core: Core, time: u64, pid: u16, numbers: &mut [u64], n: usize) -> usize
+    requires { ⌜ (core .count ≤ mostListed) × (n < 96) × (384 ≤ length (now numbers)) ⌝ }
+    ensures { λ r. ⌜ (r ≡ n + length (scramblingEvents time core pid))
+        × (now (numbers .exit) ≡ eventsLaid (now (numbers .entry)) n (scramblingEvents time core pid)) × (r ≤ n + 1) ⌝ }
+{
+    if pid == PAT_PID {
+        return events::put(numbers, n, time, PAT_ERROR, SCRAMBLED, pid);
+    }
+    let entries = core.entries;
+    if is_listed(entries, core.count, pid) {
+        return events::put(numbers, n, time, PMT_ERROR, SCRAMBLED, pid);
+    }
+    n
+}
+
+// Step 5, and the payload: the part of the packet from its place on is handed to section building, where
+// sections of the PID are built. The counter table stays as step 4 left it, whatever it is.
+fn judge_payload(
+    core: Core,
+    time: u64,
+    packet: &[u8],
+    h: Header,
+    room: usize,
+    take: bool,
+    memory: &mut [u8; 24576],
+    numbers: &mut [u64],
+    n: usize,
+) -> Stepped
+    requires { ⌜ Ready core (now memory) (now packet) (now numbers) n 62 ⌝ }
+    requires { ⌜ (h ≡ headerOf (now packet)) × (room ≡ roomFor core (pidOf (now packet))) ⌝ }
+    ensures { λ r. ⌜ ((cs : List ℕ) → Done (step5 time (now (packet .entry)) take cs (held core (now (memory .entry)))) 62
+        (r .core) cs (now (memory .exit)) (now (numbers .entry)) n (now (numbers .exit)) (r .n)) ⌝ }
+{
+    if h.scrambled {
+        let next = judge_scrambled(core, time, h.pid, numbers, n);
+        return Stepped {
+            core: keep_room(core, room, false),
+            n: next,
+        };
+    }
+    if !take {
+        return Stepped { core: core, n: n };
+    }
+    if ROOM_COUNT <= room {
+        return Stepped { core: core, n: n };
+    }
+    let at = h.payload;
+    let taken = payloads::take_payload(
+        core,
+        memory,
+        room,
+        h.pid,
+        h.start,
+        &packet[at..],
+        time,
+        numbers,
+        n,
+    );
+    let after = taken.core;
+    Stepped {
+        core: after,
+        n: taken.n,
+    }
+}
+
+// The event of step 4, if there is one.
+fn judge_continuity(event: bool, time: u64, pid: u16, numbers: &mut [u64], n: usize) -> usize
+    requires { ⌜ (n < 96) × (384 ≤ length (now numbers)) ⌝ }
+    ensures { λ r. ⌜ (r ≡ n + length (faultEvents time pid (cond event (continuityError ∷ []) [])))
+        × (now (numbers .exit) ≡ eventsLaid (now (numbers .entry)) n (faultEvents time pid (cond event (continuityError ∷ []) [])))
+        × (r ≤ n + 1) ⌝ }
+{
+    if event {
+        return events::put(numbers, n, time, CONTINUITY_ERROR, NO_CAUSE, pid);
+    }
+    n
+}
+
+// Step 4, and what follows it.
+fn judge_counter(
+    core: Core,
+    time: u64,
+    packet: &[u8],
+    h: Header,
+    counters: &mut [u8],
+    memory: &mut [u8; 24576],
+    numbers: &mut [u64],
+    n: usize,
+) -> Stepped
+    requires { ⌜ Ready core (now memory) (now packet) (now numbers) n 63 ⌝ }
+    requires { ⌜ (h ≡ headerOf (now packet)) × (h .pid < length (now counters)) ⌝ }
+    ensures { λ r. ⌜ Done (step4 time (now (packet .entry)) (now (counters .entry)) (held core (now (memory .entry)))) 63
+        (r .core) (now (counters .exit)) (now (memory .exit)) (now (numbers .entry)) n (now (numbers .exit)) (r .n) ⌝ }
+{
+    let pid = h.pid as usize;
+    let j = continuity::judge(counters[pid], h);
+    counters[pid] = j.byte;
+    let room = room_for(core, h.pid);
+    let next = judge_continuity(j.event, time, h.pid, numbers, n);
+    judge_payload(
+        keep_room(core, room, j.keep),
+        time,
+        packet,
+        h,
+        room,
+        j.take,
+        memory,
+        numbers,
+        next,
+    )
+}
+
+// Steps 2 and 3, and what follows them.
+fn judge_header(
+    core: Core,
+    time: u64,
+    packet: &[u8],
+    h: Header,
+    counters: &mut [u8],
+    memory: &mut [u8; 24576],
+    numbers: &mut [u64],
+    n: usize,
+) -> Stepped
+    requires { ⌜ Ready core (now memory) (now packet) (now numbers) n 63 ⌝ }
+    requires { ⌜ (h ≡ headerOf (now packet)) × (h .pid < length (now counters)) ⌝ }
+    ensures { λ r. ⌜ Done (step2 time (now (packet .entry)) (now (counters .entry)) (held core (now (memory .entry)))) 63
+        (r .core) (now (counters .exit)) (now (memory .exit)) (now (numbers .entry)) n (now (numbers .exit)) (r .n) ⌝ }
+{
+    if h.error {
+        let next = events::put(numbers, n, time, TRANSPORT_ERROR, NO_CAUSE, h.pid);
+        return Stepped {
+            core: core,
+            n: next,
+        };
+    }
+    if (h.pid == NULL_PID) | (h.control == 0) {
+        return Stepped { core: core, n: n };
+    }
+    judge_counter(core, time, packet, h, counters, memory, numbers, n)
+}
+
+// Step 1 in sync.
+fn judge_in_sync(
+    core: Core,
+    right: bool,
+    time: u64,
+    pid: u16,
+    numbers: &mut [u64],
+    n: usize,
+) -> Synced
+    requires { ⌜ (n + 2 ≤ 96) × (384 ≤ length (now numbers)) ⌝ }
+    ensures { λ r. ⌜ Caught (inSync right core) time pid (r .core) (r .further) (now (numbers .entry)) n (now (numbers .exit)) (r .n) ⌝ }
+{
+    let mut after = core;
+    if right {
+        after.run = 0;
+        after.lost = false;
+        return Synced {
+            core: after,
+            n: n,
+            further: true,
+        };
+    }
+    let next = events::put(numbers, n, time, SYNC_BYTE_ERROR, NO_CAUSE, pid);
+    if core.run == 1 {
+        after.run = 0;
+        after.lost = true;
+        after.half = [0; 21];
+        return Synced {
+            core: after,
+            n: events::put(numbers, next, time, SYNC_LOSS, NO_CAUSE, pid),
+            further: false,
+        };
+    }
+    after.run = 1;
+    after.lost = false;
+    Synced {
+        core: after,
+        n: next,
+        further: false,
+    }
+}
+
+// Step 1 while sync is lost: no events.
+fn judge_lost(core: Core, right: bool, n: usize) -> Synced
+    requires { ⌜ core .run ≤ 4 ⌝ }
+    ensures { λ r. ⌜ (r .core ≡ whileLost right core .core) × (r .further ≡ whileLost right core .further) × (r .n ≡ n) ⌝ }
+{
+    let mut after = core;
+    after.lost = true;
+    after.run = 0;
+    if !right {
+        return Synced {
+            core: after,
+            n: n,
+            further: false,
+        };
+    }
+    if core.run == 4 {
+        after.lost = false;
+        return Synced {
+            core: after,
+            n: n,
+            further: true,
+        };
+    }
+    after.run = core.run + 1;
+    Synced {
+        core: after,
+        n: n,
+        further: false,
+    }
+}
+
+// Step 1.
+fn judge_sync(core: Core, right: bool, time: u64, pid: u16, numbers: &mut [u64], n: usize) -> Synced
+    requires { ⌜ (n + 2 ≤ 96) × (384 ≤ length (now numbers)) × (core .run ≤ 4) ⌝ }
+    ensures { λ r. ⌜ Caught (syncedOf right core) time pid (r .core) (r .further) (now (numbers .entry)) n (now (numbers .exit)) (r .n) ⌝ }
+{
+    if core.lost {
+        return judge_lost(core, right, n);
+    }
+    judge_in_sync(core, right, time, pid, numbers, n)
+}
+
+// A packet at a time: steps 1 to 5. Its events are laid from the place n on.
+pub fn judge_packet(
+    core: Core,
+    time: u64,
+    packet: &[u8],
+    counters: &mut [u8],
+    memory: &mut [u8; 24576],
+    numbers: &mut [u64],
+    n: usize,
+) -> Stepped
+    requires { ⌜ Judgeable core (now packet) (now counters) (now memory) (now numbers) n ⌝ }
+    ensures { λ r. ⌜ Done (step1 time (now (packet .entry)) (now (counters .entry)) (held core (now (memory .entry)))) 65
+        (r .core) (now (counters .exit)) (now (memory .exit)) (now (numbers .entry)) n (now (numbers .exit)) (r .n) ⌝ }
+{
+    let h = header::read(packet);
+    let right = packet[0] == SYNC_BYTE;
+    let y = judge_sync(core, right, time, h.pid, numbers, n);
+    let synced = y.core;
+    if y.further {
+        return judge_header(synced, time, packet, h, counters, memory, numbers, y.n);
+    }
+    Stepped {
+        core: synced,
+        n: y.n,
+    }
+}
