@@ -1,0 +1,8 @@
+pub mod Places
+pub mod Rooms
+pub mod Built
+pub mod Listing
+pub mod Moving
+pub mod Kept
+pub mod Never
+pub mod Most
