@@ -3,3 +3,4 @@ pub mod Sections
 pub mod Programmes
 pub mod Steps
 pub mod Tables
+pub mod Lives

@@ -8,11 +8,11 @@ use Rattle.lateness.specs.Gaps.{Rising, Watch, off, on, dueOf, Act, begi
 use Rattle.lateness.specs.Logs.{Call, clock, packet, timeOf, InOrder, step, lateLog, packetLog, seen, orClock, only, Every, Padded, none, same, extra}
 use Rattle.lateness.proofs.Agree.{agree}
 
-live-acts : (ls : List ℕ) (p : ℕ) (az : List Act) (w : Watch) (os : List Seen) → live ls p w (map act az ++ os) ≡ live ls p (acted p w az) os
+pub live-acts : (ls : List ℕ) (p : ℕ) (az : List Act) (w : Watch) (os : List Seen) → live ls p w (map act az ++ os) ≡ live ls p (acted p w az) os
 live-acts ls p [] w os = refl
 live-acts ls p (a ∷ az) w os = live-acts ls p az (after p w a) os
 
-ordered-acts : (p : ℕ) (az : List Act) (os : List Seen) → Ordered p os → Ordered p (map act az ++ os)
+pub ordered-acts : (p : ℕ) (az : List Act) (os : List Seen) → Ordered p os → Ordered p (map act az ++ os)
 ordered-acts p [] os o = o
 ordered-acts p (a ∷ az) os o = ordered-acts p az os o
 

@@ -1,0 +1,273 @@
+-- The late events of a call: those with one watch's name are what falls due of its own gap, and a packet's own events are none. One law over
+-- the place in the table and in the list. Assumes nothing.
+use mathlib.Core.Path.{_≡_, refl, sym, ap, ap₂, _∙_}
+use mathlib.Core.Bool.{Bool, true, false, cond, not, _&&_, true≢false}
+use mathlib.Core.List.{List, [], _∷_, _++_, map, append-nil}
+use Prim.Native.Nat.{ℕ, zero, suc, _<_}
+use native.Mathlib.Nat.{le-of-suc-le-suc, not-suc-le-zero}
+use native.Mathlib.Omega.{arith}
+use lib.Dec.{eqb}
+use lib.ListN.{length, getD}
+use borrow.Author.Tests.{eqb-true, eqb-false, eq-eqb, ne-eqb, not-true}
+use Rattle.lists.proofs.Tests.{and-left, and-right, or-false-left, or-false-right}
+use Rattle.lists.proofs.Table.{passes-at}
+use Rattle.lateness.specs.Gaps.{due, dueOf, Watch, off, on}
+use Rattle.events.specs.declared.Event.{Event}
+use Rattle.events.specs.Faults.{late}
+use Rattle.events.specs.Events.{eventAt}
+use Rattle.watches.specs.declared.Entry.{Entry}
+use Rattle.watches.specs.Tables.{Table, fixedTables, tableOf, pmtTable}
+use Rattle.watches.specs.Late.{entryLate, tablesLate, entriesLate}
+use Rattle.programmes.specs.Listing.{isPair}
+use Rattle.calls.specs.declared.Core.{Core}
+use Rattle.calls.specs.Cores.{listed, lateOf}
+use Rattle.calls.specs.Sound.{numberAmong, entrySound, entriesSound}
+use Rattle.demands.specs.Listening.{pairOf, paired}
+use Rattle.demands.specs.Judgements.{Watched, fixed, programme, limitsOf, faultOf, idOf, IsWatched, isLate, lateFor, isListed, tableNamed, isNamed}
+use Rattle.demands.proofs.Watches.{found, watchIn, isOn, paired-found, same-number, same-pid}
+
+-- STAMPS BY NAME
+unfoldable pub stampsOf : ℕ → ℕ → List Event → List ℕ
+stampsOf f i [] = []
+stampsOf f i (e ∷ es) = cond (isLate f i e) (e .stamp ∷ stampsOf f i es) (stampsOf f i es)
+
+-- a late event by name is its stamp
+event-named : (f i : ℕ) (e : Event) → isLate f i e ≡ true → e ≡ eventAt (e .stamp) f late i
+event-named f i e h =
+    let named = and-right (eqb (e .cause) late) (eqb (e .fault) f && eqb (e .id) i) h in
+    λ k. record {
+      stamp = e .stamp;
+      fault = eqb-true (e .fault) f (and-left (eqb (e .fault) f) (eqb (e .id) i) named) k;
+      cause = eqb-true (e .cause) late (and-left (eqb (e .cause) late) (eqb (e .fault) f && eqb (e .id) i) h) k;
+      id = eqb-true (e .id) i (and-right (eqb (e .fault) f) (eqb (e .id) i) named) k;
+    }
+
+pub lateFor-stamps : (f i : ℕ) (es : List Event) → lateFor f i es ≡ map (λ x. eventAt x f late i) (stampsOf f i es)
+unfolding lateFor stampsOf
+lateFor-stamps f i [] = refl
+lateFor-stamps f i (e ∷ es) = go (isLate f i e) refl (lateFor-stamps f i es)
+  where
+    go : (b : Bool) → isLate f i e ≡ b → lateFor f i es ≡ map (λ x. eventAt x f late i) (stampsOf f i es)
+        → cond b (e ∷ lateFor f i es) (lateFor f i es) ≡ map (λ x. eventAt x f late i) (cond b (e .stamp ∷ stampsOf f i es) (stampsOf f i es))
+    go true h ih = ap₂ (λ x y. x ∷ y) (event-named f i e h) ih
+    go false h ih = ih
+
+pub stampsOf-append : (f i : ℕ) (xs ys : List Event) → stampsOf f i (xs ++ ys) ≡ stampsOf f i xs ++ stampsOf f i ys
+unfolding stampsOf
+stampsOf-append f i [] ys = refl
+stampsOf-append f i (e ∷ xs) ys = go (isLate f i e) (stampsOf-append f i xs ys)
+  where
+    go : (b : Bool) → stampsOf f i (xs ++ ys) ≡ stampsOf f i xs ++ stampsOf f i ys
+        → cond b (e .stamp ∷ stampsOf f i (xs ++ ys)) (stampsOf f i (xs ++ ys)) ≡ cond b (e .stamp ∷ stampsOf f i xs) (stampsOf f i xs) ++ stampsOf f i ys
+    go true h = ap (λ z. e .stamp ∷ z) h
+    go false h = h
+
+stampsOf-own : (f i : ℕ) (ss : List ℕ) → stampsOf f i (map (λ x. eventAt x f late i) ss) ≡ ss
+unfolding stampsOf
+stampsOf-own f i [] = refl
+stampsOf-own f i (s ∷ ss) = rw (eq-eqb f f refl, eq-eqb i i refl) (ap (λ z. s ∷ z) (stampsOf-own f i ss))
+
+stampsOf-other : (f i g j : ℕ) (ss : List ℕ) → eqb g f && eqb j i ≡ false → stampsOf f i (map (λ x. eventAt x g late j) ss) ≡ []
+unfolding stampsOf
+stampsOf-other f i g j [] e = refl
+stampsOf-other f i g j (s ∷ ss) e = rw e (stampsOf-other f i g j ss e)
+
+-- a watch of another name before, or none after, gives nothing
+stampsOf-after : (f i g j : ℕ) (ss : List ℕ) (es : List Event) → eqb g f && eqb j i ≡ false
+    → stampsOf f i (map (λ x. eventAt x g late j) ss ++ es) ≡ stampsOf f i es
+stampsOf-after f i g j ss es e = stampsOf-append f i (map (λ x. eventAt x g late j) ss) es ∙ ap (λ z. z ++ stampsOf f i es) (stampsOf-other f i g j ss e)
+
+stampsOf-only : (f i : ℕ) (ss : List ℕ) (es : List Event) → stampsOf f i es ≡ [] → stampsOf f i (map (λ x. eventAt x f late i) ss ++ es) ≡ ss
+stampsOf-only f i ss es e =
+    stampsOf-append f i (map (λ x. eventAt x f late i) ss) es ∙ ap₂ (λ a b. a ++ b) (stampsOf-own f i ss) e ∙ append-nil ss
+
+-- TESTS
+eqb-comm : (a b : ℕ) → eqb a b ≡ eqb b a
+eqb-comm a b = go (eqb a b) refl
+  where
+    go : (d : Bool) → eqb a b ≡ d → d ≡ eqb b a
+    go true e = sym (eq-eqb b a (sym (eqb-true a b e)))
+    go false e = sym (ne-eqb b a (λ z. eqb-false a b e (sym z)))
+
+and-none : (a b : Bool) → a ≡ false → a && b ≡ false
+and-none true b e = absurd (true≢false e)
+and-none false b e = refl
+
+cond-none : (a b : Bool) → cond a true b ≡ false → a ≡ false
+cond-none true b e = e
+cond-none false b e = refl
+
+cond-rest : (a b : Bool) → cond a true b ≡ false → b ≡ false
+cond-rest true b e = absurd (true≢false e)
+cond-rest false b e = e
+
+-- THE FIXED TABLES, each of its own name
+abbrev Apart : List Table → Type 0
+Apart [] = Unit
+Apart (r ∷ rs) = (tableNamed (r .fault) (r .pid) rs ≡ false) × Apart rs
+
+named-other : (f i k : ℕ) (rs : List Table) (d : Table) → tableNamed f i rs ≡ false → k < length rs
+    → eqb f (getD rs k d .fault) && eqb i (getD rs k d .pid) ≡ false
+unfolding tableNamed
+named-other f i k [] d e h = absurd (not-suc-le-zero h)
+named-other f i zero (r ∷ rs) d e h =
+    rw (eqb-comm f (r .fault), eqb-comm i (r .pid)) (cond-none (eqb (r .fault) f && eqb (r .pid) i) (tableNamed f i rs) e)
+named-other f i (suc k) (r ∷ rs) d e h =
+    named-other f i k rs d (cond-rest (eqb (r .fault) f && eqb (r .pid) i) (tableNamed f i rs) e) (le-of-suc-le-suc h)
+
+tables-unnamed : (f i p t : ℕ) (rs : List Table) (ss : List ℕ) → tableNamed f i rs ≡ false → stampsOf f i (tablesLate p t rs ss) ≡ []
+unfolding tablesLate stampsOf tableNamed
+tables-unnamed f i p t [] ss e = refl
+tables-unnamed f i p t (r ∷ rs) [] e = refl
+tables-unnamed f i p t (r ∷ rs) (s ∷ ss) e =
+    stampsOf-after f i (r .fault) (r .pid) (due (r .limit ∷ []) s p t) (tablesLate p t rs ss)
+    (cond-none (eqb (r .fault) f && eqb (r .pid) i) (tableNamed f i rs) e)
+    ∙ tables-unnamed f i p t rs ss (cond-rest (eqb (r .fault) f && eqb (r .pid) i) (tableNamed f i rs) e)
+
+tables-own : (p t k : ℕ) (rs : List Table) (ss : List ℕ) (d : Table) → Apart rs → k < length rs → k < length ss
+    → stampsOf (getD rs k d .fault) (getD rs k d .pid) (tablesLate p t rs ss) ≡ due (getD rs k d .limit ∷ []) (getD ss k 0) p t
+unfolding tablesLate
+tables-own p t k [] ss d a h g = absurd (not-suc-le-zero h)
+tables-own p t k (r ∷ rs) [] d a h g = absurd (not-suc-le-zero g)
+tables-own p t zero (r ∷ rs) (s ∷ ss) d a h g =
+    stampsOf-only (r .fault) (r .pid) (due (r .limit ∷ []) s p t) (tablesLate p t rs ss) (tables-unnamed (r .fault) (r .pid) p t rs ss (a .0))
+tables-own p t (suc k) (r ∷ rs) (s ∷ ss) d a h g =
+    stampsOf-after (getD rs k d .fault) (getD rs k d .pid) (r .fault) (r .pid) (due (r .limit ∷ []) s p t) (tablesLate p t rs ss)
+    (named-other (r .fault) (r .pid) k rs d (a .0) (le-of-suc-le-suc h))
+    ∙ tables-own p t k rs ss d (a .1) (le-of-suc-le-suc h) (le-of-suc-le-suc g)
+
+fixed-apart : Apart fixedTables
+unfolding tableNamed
+fixed-apart = (refl, (refl, (refl, (refl, (refl, tt)))))
+
+-- no programme has a fixed table's fault
+fault-other : (k : ℕ) → k < length fixedTables → eqb (pmtTable .fault) (tableOf k .fault) ≡ false
+fault-other k h = not-true (eqb (pmtTable .fault) (tableOf k .fault)) (passes-at (λ j. not (eqb (pmtTable .fault) (tableOf j .fault))) 5 refl k h)
+
+pmt-unnamed : (n : ℕ) → tableNamed (pmtTable .fault) n fixedTables ≡ false
+unfolding tableNamed
+pmt-unnamed n = refl
+
+-- THE LISTED PROGRAMMES, each of its own number
+entries-foreign : (f i p t : ℕ) (es : List Entry) → eqb (pmtTable .fault) f ≡ false → stampsOf f i (entriesLate p t es) ≡ []
+unfolding entriesLate stampsOf
+entries-foreign f i p t [] e = refl
+entries-foreign f i p t (x ∷ es) e =
+    stampsOf-after f i (pmtTable .fault) (x .number) (due (pmtTable .limit ∷ []) (x .since) p t) (entriesLate p t es)
+    (and-none (eqb (pmtTable .fault) f) (eqb (x .number) i) e)
+    ∙ entries-foreign f i p t es e
+
+entries-absent : (n p t : ℕ) (es : List Entry) → numberAmong n es ≡ false → stampsOf (pmtTable .fault) n (entriesLate p t es) ≡ []
+unfolding entriesLate stampsOf numberAmong
+entries-absent n p t [] e = refl
+entries-absent n p t (x ∷ es) e =
+    stampsOf-after (pmtTable .fault) n (pmtTable .fault) (x .number) (due (pmtTable .limit ∷ []) (x .since) p t) (entriesLate p t es)
+    (cond-none (eqb (x .number) n) (numberAmong n es) e)
+    ∙ entries-absent n p t es (cond-rest (eqb (x .number) n) (numberAmong n es) e)
+
+found-number : (n q s : ℕ) (es : List Entry) → found n q es ≡ on s → numberAmong n es ≡ true
+unfolding found numberAmong
+found-number n q s [] e = cc
+found-number n q s (x ∷ es) e = go (eqb (x .number) n) (eqb (x .pid) q) e (found-number n q s es)
+  where
+    go : (a b : Bool) → cond (a && b) (on (x .since)) (found n q es) ≡ on s → (found n q es ≡ on s → numberAmong n es ≡ true)
+        → cond a true (numberAmong n es) ≡ true
+    go true b e ih = refl
+    go false b e ih = ih e
+
+entries-own : (n q s p t : ℕ) (es : List Entry) → entriesSound es ≡ true → found n q es ≡ on s
+    → stampsOf (pmtTable .fault) n (entriesLate p t es) ≡ due (pmtTable .limit ∷ []) s p t
+unfolding entriesLate found entriesSound
+entries-own n q s p t [] a e = cc
+entries-own n q s p t (x ∷ es) a e = go (isPair n q x) refl e (entries-own n q s p t es sound)
+  where
+    sound : entriesSound es ≡ true
+    sound = and-right (entrySound x && not (numberAmong (x .number) es)) (entriesSound es) a
+
+    alone : numberAmong (x .number) es ≡ false
+    alone =
+        not-true (numberAmong (x .number) es)
+        (and-right (entrySound x) (not (numberAmong (x .number) es)) (and-left (entrySound x && not (numberAmong (x .number) es)) (entriesSound es) a))
+
+    apart : (b : Bool) → eqb (x .number) n ≡ b → found n q es ≡ on s → b ≡ false
+    apart true h f =
+        absurd (true≢false (sym (found-number n q s es f) ∙ ap (λ z. numberAmong z es) (sym (eqb-true (x .number) n h)) ∙ alone))
+    apart false h f = refl
+
+    go : (b : Bool) → isPair n q x ≡ b → cond b (on (x .since)) (found n q es) ≡ on s
+        → (found n q es ≡ on s → stampsOf (pmtTable .fault) n (entriesLate p t es) ≡ due (pmtTable .limit ∷ []) s p t)
+        → stampsOf (pmtTable .fault) n (entryLate p t x ++ entriesLate p t es) ≡ due (pmtTable .limit ∷ []) s p t
+    go true h e ih =
+        let same : x .number ≡ n = same-number n q x h in
+        let start : x .since ≡ s = cc in
+        rw (← same, ← start)
+        (stampsOf-only (pmtTable .fault) (x .number) (due (pmtTable .limit ∷ []) (x .since) p t) (entriesLate p t es) (entries-absent (x .number) p t es alone))
+    go false h e ih =
+        stampsOf-after (pmtTable .fault) n (pmtTable .fault) (x .number) (due (pmtTable .limit ∷ []) (x .since) p t) (entriesLate p t es)
+        (apart (eqb (x .number) n) refl e)
+        ∙ ih e
+
+-- a listed number has one PID
+paired-number : (n q : ℕ) (es : List Entry) → paired n q (map pairOf es) ≡ true → numberAmong n es ≡ true
+paired-number n q es e = go (found n q es) refl
+  where
+    go : (v : Watch) → found n q es ≡ v → numberAmong n es ≡ true
+    go off h = absurd (true≢false (sym e ∙ paired-found n q es ∙ ap isOn h))
+    go (on s) h = found-number n q s es h
+
+pub paired-once : (n q r : ℕ) (es : List Entry) → entriesSound es ≡ true → paired n q (map pairOf es) ≡ true → paired n r (map pairOf es) ≡ true → q ≡ r
+unfolding paired entriesSound
+paired-once n q r [] a e h = absurd (true≢false (sym e))
+paired-once n q r (x ∷ es) a e h = go (isPair n q x) (isPair n r x) refl refl e h (paired-once n q r es sound)
+  where
+    sound : entriesSound es ≡ true
+    sound = and-right (entrySound x && not (numberAmong (x .number) es)) (entriesSound es) a
+
+    alone : numberAmong (x .number) es ≡ false
+    alone =
+        not-true (numberAmong (x .number) es)
+        (and-right (entrySound x) (not (numberAmong (x .number) es)) (and-left (entrySound x && not (numberAmong (x .number) es)) (entriesSound es) a))
+
+    again : (p : ℕ) → x .number ≡ n → paired n p (map pairOf es) ≡ true → q ≡ r
+    again p same g = absurd (true≢false (sym (paired-number n p es g) ∙ ap (λ z. numberAmong z es) (sym same) ∙ alone))
+
+    go : (b d : Bool) → isPair n q x ≡ b → isPair n r x ≡ d → cond b true (paired n q (map pairOf es)) ≡ true
+        → cond d true (paired n r (map pairOf es)) ≡ true
+        → (paired n q (map pairOf es) ≡ true → paired n r (map pairOf es) ≡ true → q ≡ r) → q ≡ r
+    go true true u v e h ih = sym (same-pid n q x u) ∙ same-pid n r x v
+    go true false u v e h ih = again r (same-number n q x u) h
+    go false true u v e h ih = again q (same-number n r x v) e
+    go false false u v e h ih = ih e h
+
+-- THE LATE EVENTS OF A CALL with the watch's name are what falls due
+pub late-due : (w : Watched) (p t : ℕ) (c : Core) → IsWatched w → length (c .since) ≡ length fixedTables → entriesSound (listed c) ≡ true
+    → cond (isListed w c) (stampsOf (faultOf w) (idOf w) (lateOf p t c)) [] ≡ dueOf (limitsOf w) (watchIn w c) p t
+unfolding lateOf
+late-due (fixed k) p t c h l a =
+    stampsOf-append (tableOf k .fault) (tableOf k .pid) (tablesLate p t fixedTables (c .since)) (entriesLate p t (listed c))
+    ∙ ap₂ (λ x y. x ++ y) (tables-own p t k fixedTables (c .since) pmtTable fixed-apart h (omega arith))
+    (entries-foreign (tableOf k .fault) (tableOf k .pid) p t (listed c) (fault-other k h))
+    ∙ append-nil (due (tableOf k .limit ∷ []) (getD (c .since) k 0) p t)
+late-due (programme n q) p t c h l a = go (found n q (listed c)) refl
+  where
+    go : (v : Watch) → found n q (listed c) ≡ v
+        → cond (paired n q (map pairOf (listed c))) (stampsOf (pmtTable .fault) n (tablesLate p t fixedTables (c .since) ++ entriesLate p t (listed c))) []
+        ≡ dueOf (pmtTable .limit ∷ []) v p t
+    go off e = rw (paired-found n q (listed c), e)
+    go (on s) e =
+        rw (paired-found n q (listed c), e)
+        (stampsOf-append (pmtTable .fault) n (tablesLate p t fixedTables (c .since)) (entriesLate p t (listed c))
+        ∙ ap₂ (λ x y. x ++ y) (tables-unnamed (pmtTable .fault) n p t fixedTables (c .since) (pmt-unnamed n)) (entries-own n q s p t (listed c) a e))
+
+-- and a name that no watch has, none
+pub late-unnamed : (f i p t : ℕ) (c : Core) → isNamed f i c ≡ false → stampsOf f i (lateOf p t c) ≡ []
+unfolding lateOf
+late-unnamed f i p t c e =
+    stampsOf-append f i (tablesLate p t fixedTables (c .since)) (entriesLate p t (listed c))
+    ∙ ap₂ (λ x y. x ++ y)
+    (tables-unnamed f i p t fixedTables (c .since) (or-false-left (tableNamed f i fixedTables) (eqb (pmtTable .fault) f && numberAmong i (listed c)) e))
+    (go (eqb (pmtTable .fault) f) refl (or-false-right (tableNamed f i fixedTables) (eqb (pmtTable .fault) f && numberAmong i (listed c)) e))
+  where
+    go : (b : Bool) → eqb (pmtTable .fault) f ≡ b → b && numberAmong i (listed c) ≡ false → stampsOf f i (entriesLate p t (listed c)) ≡ []
+    go true h g = rw (← eqb-true (pmtTable .fault) f h) (entries-absent i p t (listed c) g)
+    go false h g = entries-foreign f i p t (listed c) h

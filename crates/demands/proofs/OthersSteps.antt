@@ -1,0 +1,223 @@
+-- A packet with the right first byte keeps two states in sync alike, with their counter tables: in both where its PID is mine, in one where it is
+-- not. Assumes nothing.
+use mathlib.Core.Path.{_≡_, refl, sym, ap, _∙_, subst}
+use mathlib.Core.Bool.{Bool, true, false, cond, _||_, true≢false}
+use mathlib.Core.List.{List, [], _∷_}
+use Prim.Native.Nat.{ℕ, _≤_}
+use native.Mathlib.Omega.{arith}
+use lib.Dec.{ltb, eqb}
+use lib.ListN.{length, getD, set, length-set}
+use lib.Seq.{getD-set-same, getD-set-other, set-out}
+use borrow.Author.Tests.{eqb-true, eqb-false, ltb-true}
+use Rattle.events.specs.Faults.{continuityError}
+use Rattle.lists.proofs.Tests.{cond-either, Order, below, from, order}
+use Rattle.watches.specs.Tables.{latestTime}
+use Rattle.header.specs.Header.{rightSync, errorBit, unitStart, pidOf, scrambledBits, controlOf, payloadOf, headerOf}
+use Rattle.continuity.specs.declared.Counted.{Counted}
+use Rattle.continuity.specs.Continuity.{countedOf}
+use Rattle.sections.specs.Rooms.{roomCount}
+use Rattle.programmes.specs.Listing.{nullPid}
+use Rattle.calls.specs.Cores.{Held, roomFor, droppedRoom}
+use Rattle.calls.specs.Sync.{Synced, withSync, inSync, syncedOf}
+use Rattle.calls.specs.Steps.{Step, packetEvents, also, Absorbed, payloadTaken, sectionsTaken, step5, step4, step3, step2, step1, counted}
+use Rattle.demands.proofs.OthersPids.{Shaped, bytesIn}
+use Rattle.demands.proofs.OthersAlike.{rooms-same, Alike, alike-itself, alike-sym, alike-trans, Closed, alike-room, other-dropped, own-dropped}
+use Rattle.demands.proofs.OthersSections.{other-taken, own-taken}
+
+module _ (mine : ℕ → Bool) where
+  -- two states that are alike, with the same table bytes
+  pub record AlikeWith (h : Held) (cs : List ℕ) (k : Held) (ds : List ℕ) : Type 0 where
+    pub held : Alike mine h k
+    pub table : length cs ≡ length ds
+    pub byte : (q : ℕ) → mine q ≡ true → getD cs q 0 ≡ getD ds q 0
+
+  with-held : (cs : List ℕ) (h k : Held) → Alike mine h k → AlikeWith h cs k cs
+  with-held cs h k a = record { held = a; table = refl; byte = λ q z. refl }
+
+  pub with-trans : (h k i : Held) (cs ds es : List ℕ) → AlikeWith h cs k ds → AlikeWith k ds i es → AlikeWith h cs i es
+  with-trans h k i cs ds es a b =
+      record {
+        held = alike-trans mine h k i (a .held) (b .held);
+        table = a .table ∙ b .table;
+        byte = λ q z. a .byte q z ∙ b .byte q z;
+      }
+
+  pub with-sym : (h k : Held) (cs ds : List ℕ) → AlikeWith h cs k ds → AlikeWith k ds h cs
+  with-sym h k cs ds a = record { held = alike-sym mine h k (a .held); table = sym (a .table); byte = λ q z. sym (a .byte q z) }
+
+  abbrev AlikeStep : Step → Step → Type 0
+  AlikeStep a b = AlikeWith (a .held) (a .counters) (b .held) (b .counters)
+
+  abbrev Leaves : Held → List ℕ → Step → Type 0
+  Leaves h cs a = AlikeWith (a .held) (a .counters) h cs
+
+  -- step 1 in sync
+  abbrev synced : Held → Held
+  synced h = record { core = withSync false 0 (h .core); memory = h .memory }
+
+  abbrev afterSync : ℕ → List ℕ → List ℕ → Held → Synced → Step
+  afterSync t p cs h y =
+      let g : Held = record { core = y .core; memory = h .memory } in
+      let s = step2 t p cs g in
+      also (packetEvents t p (y .faults)) (cond (y .further) s (record { held = g; counters = cs; events = [] }))
+
+  in-sync : (p : List ℕ) (h : Held) → rightSync p ≡ true → Shaped h → syncedOf (rightSync p) (h .core) ≡ inSync true (h .core)
+  in-sync p h right s = rw (right, s .inSync)
+
+  synced-shaped : (h : Held) → Shaped h → Shaped (synced h)
+  synced-shaped h s =
+      record {
+        inSync = refl;
+        run = omega arith;
+        memory = s .memory;
+        half = s .half;
+        since = s .since;
+        entries = s .entries;
+        count = s .count;
+        more = s .more;
+        times = s .times;
+        starts = s .starts;
+      }
+
+  synced-alike : (h : Held) → Shaped h → Alike mine (synced h) h
+  synced-alike h s =
+      record {
+        left = synced-shaped h s;
+        right = s;
+        lists = alike-itself mine h s .lists;
+        since = λ r l z. refl;
+        bytes = λ q z. ap (bytesIn h) (rooms-same (synced h .core) (h .core) refl q);
+      }
+
+  module _ (closed : Closed mine) (t : ℕ) (early : t ≤ latestTime) (p : List ℕ) where
+    -- OF A PID THAT IS NOT MINE
+    module _ (other : mine (pidOf p) ≡ false) where
+      other-payload : (h : Held) → Shaped h → Alike mine (payloadTaken t (roomFor (h .core) (pidOf p)) p h .held) h
+      other-payload h s = go (ltb (roomFor (h .core) (pidOf p)) roomCount) refl
+        where
+          go : (b : Bool) → ltb (roomFor (h .core) (pidOf p)) roomCount ≡ b
+              → Alike mine
+              (cond b (sectionsTaken t (roomFor (h .core) (pidOf p)) (pidOf p) (unitStart p) (payloadOf p) h) (record { held = h; events = [] }) .held) h
+          go true e = other-taken mine closed t early (pidOf p) (unitStart p) (payloadOf p) h s other (ltb-true (roomFor (h .core) (pidOf p)) roomCount e)
+          go false e = alike-itself mine h s
+
+      other-5 : (take : Bool) (cs : List ℕ) (h : Held) → Shaped h → Leaves h cs (step5 t p take cs h)
+      other-5 take cs h s =
+          cond-either (Leaves h cs) (scrambledBits p) _ _ (with-held cs (droppedRoom (roomFor (h .core) (pidOf p)) h) h (other-dropped mine h s (pidOf p) other))
+          (cond-either (Leaves h cs) take _ _ (with-held cs (payloadTaken t (roomFor (h .core) (pidOf p)) p h .held) h (other-payload h s)) (with-held cs h h (alike-itself mine h s)))
+
+      other-4 : (cs : List ℕ) (h : Held) → Shaped h → Leaves h cs (step4 t p cs h)
+      other-4 cs h s =
+          let j = counted p cs in
+          let g = cond (j .keep) h (droppedRoom (roomFor (h .core) (pidOf p)) h) in
+          let kept : Alike mine g h = cond-either (λ (z : Held). Alike mine z h) (j .keep) h (droppedRoom (roomFor (h .core) (pidOf p)) h) (alike-itself mine h s) (other-dropped mine h s (pidOf p) other) in
+          let ds = set cs (pidOf p) (j .byte) in
+          with-trans (step5 t p (j .take) ds g .held) g h (step5 t p (j .take) ds g .counters) ds cs (other-5 (j .take) ds g (kept .left))
+          (record {
+            held = kept;
+            table = length-set cs (pidOf p) (j .byte);
+            byte = λ q z. getD-set-other cs (pidOf p) q (j .byte) 0 (λ e. true≢false (sym z ∙ ap mine e ∙ other));
+          })
+
+      other-3 : (cs : List ℕ) (h : Held) → Shaped h → Leaves h cs (step3 t p cs h)
+      other-3 cs h s =
+          cond-either (Leaves h cs) (eqb (pidOf p) nullPid || eqb (controlOf p) 0) (record { held = h; counters = cs; events = [] }) (step4 t p cs h)
+          (with-held cs h h (alike-itself mine h s)) (other-4 cs h s)
+
+      other-2 : (cs : List ℕ) (h : Held) → Shaped h → Leaves h cs (step2 t p cs h)
+      other-2 cs h s = cond-either (Leaves h cs) (errorBit p) _ (step3 t p cs h) (with-held cs h h (alike-itself mine h s)) (other-3 cs h s)
+
+      pub other-1 : rightSync p ≡ true → (cs : List ℕ) (h : Held) → Shaped h → Leaves h cs (step1 t p cs h)
+      unfolding step1
+      other-1 right cs h s =
+          subst (λ (y : Synced). Leaves h cs (afterSync t p cs h y)) (sym (in-sync p h right s))
+          (with-trans (step2 t p cs (synced h) .held) (synced h) h (step2 t p cs (synced h) .counters) cs cs (other-2 cs (synced h) (synced-shaped h s))
+          (with-held cs (synced h) h (synced-alike h s)))
+
+    -- OF A PID THAT IS MINE
+    module _ (own : mine (pidOf p) ≡ true) where
+      own-payload : (h k : Held) → Alike mine h k → Alike mine (payloadTaken t (roomFor (h .core) (pidOf p)) p h .held) (payloadTaken t (roomFor (k .core) (pidOf p)) p k .held)
+      own-payload h k a =
+          subst (λ (r : ℕ). Alike mine (payloadTaken t (roomFor (h .core) (pidOf p)) p h .held) (payloadTaken t r p k .held)) (alike-room mine closed h k a (pidOf p) own)
+          (go (roomFor (h .core) (pidOf p)) refl (ltb (roomFor (h .core) (pidOf p)) roomCount) refl)
+        where
+          taken : ℕ → Held → Absorbed
+          taken r g = sectionsTaken t r (pidOf p) (unitStart p) (payloadOf p) g
+
+          go : (r : ℕ) → r ≡ roomFor (h .core) (pidOf p) → (b : Bool) → ltb r roomCount ≡ b
+              → Alike mine (cond b (taken r h) (record { held = h; events = [] }) .held) (cond b (taken r k) (record { held = k; events = [] }) .held)
+          go r er true e = own-taken mine closed t early (pidOf p) (unitStart p) (payloadOf p) h k a own r er (ltb-true r roomCount e)
+          go r er false e = a
+
+      cond-alike : (b : Bool) (x y v w : Step) → AlikeStep x v → AlikeStep y w → AlikeStep (cond b x y) (cond b v w)
+      cond-alike true x y v w a c = a
+      cond-alike false x y v w a c = c
+
+      -- the same table bytes on
+      with-tables : (h k g i : Held) (cs ds : List ℕ) → AlikeWith h cs k ds → Alike mine g i → AlikeWith g cs i ds
+      with-tables h k g i cs ds a b = record { held = b; table = a .table; byte = a .byte }
+
+      own-5 : (take : Bool) (cs ds : List ℕ) (h k : Held) → AlikeWith h cs k ds → AlikeStep (step5 t p take cs h) (step5 t p take ds k)
+      own-5 take cs ds h k a =
+          cond-alike (scrambledBits p) _ _ _ _
+          (with-tables h k (droppedRoom (roomFor (h .core) (pidOf p)) h) (droppedRoom (roomFor (k .core) (pidOf p)) k) cs ds a (own-dropped mine closed h k (a .held) (pidOf p) own))
+          (cond-alike take _ _ _ _
+          (with-tables h k (payloadTaken t (roomFor (h .core) (pidOf p)) p h .held) (payloadTaken t (roomFor (k .core) (pidOf p)) p k .held) cs ds a (own-payload h k (a .held)))
+          a)
+
+      -- the same byte laid into both tables
+      set-byte : (q b i : ℕ) (cs ds : List ℕ) → length cs ≡ length ds → getD cs i 0 ≡ getD ds i 0 → getD (set cs q b) i 0 ≡ getD (set ds q b) i 0
+      set-byte q b i cs ds l e = go (eqb i q) refl (order q (length cs))
+        where
+          go : (x : Bool) → eqb i q ≡ x → Order q (length cs) → getD (set cs q b) i 0 ≡ getD (set ds q b) i 0
+          go true z (below g) =
+              let here : i ≡ q = eqb-true i q z in
+              rw (here, getD-set-same cs q b 0 g, getD-set-same ds q b 0 (omega (arith, l, g)))
+          go true z (from g) = rw (set-out cs q b g, set-out ds q b (omega (arith, l, g))) e
+          go false z g = getD-set-other cs q i b 0 (eqb-false i q z) ∙ e ∙ sym (getD-set-other ds q i b 0 (eqb-false i q z))
+
+      -- step 4 by its judgement j
+      abbrev step4-by : Counted → List ℕ → Held → Step
+      step4-by j cs h =
+          also (packetEvents t p (cond (j .event) (continuityError ∷ []) []))
+          (step5 t p (j .take) (set cs (pidOf p) (j .byte)) (cond (j .keep) h (droppedRoom (roomFor (h .core) (pidOf p)) h)))
+
+      own-counted : (j : Counted) (cs ds : List ℕ) (h k : Held) → AlikeWith h cs k ds → AlikeStep (step4-by j cs h) (step4-by j ds k)
+      own-counted j cs ds h k a = own-5 (j .take) (set cs (pidOf p) (j .byte)) (set ds (pidOf p) (j .byte)) (kept (j .keep) h) (kept (j .keep) k) next
+        where
+          kept : Bool → Held → Held
+          kept b g = cond b g (droppedRoom (roomFor (g .core) (pidOf p)) g)
+
+          kept-alike : (b : Bool) → Alike mine (kept b h) (kept b k)
+          kept-alike true = a .held
+          kept-alike false = own-dropped mine closed h k (a .held) (pidOf p) own
+
+          next : AlikeWith (kept (j .keep) h) (set cs (pidOf p) (j .byte)) (kept (j .keep) k) (set ds (pidOf p) (j .byte))
+          next =
+              record {
+                held = kept-alike (j .keep);
+                table = length-set cs (pidOf p) (j .byte) ∙ a .table ∙ sym (length-set ds (pidOf p) (j .byte));
+                byte = λ q z. set-byte (pidOf p) (j .byte) q cs ds (a .table) (a .byte q z);
+              }
+
+      own-4 : (cs ds : List ℕ) (h k : Held) → AlikeWith h cs k ds → AlikeStep (step4 t p cs h) (step4 t p ds k)
+      own-4 cs ds h k a =
+          subst (λ (b : ℕ). AlikeStep (step4 t p cs h) (step4-by (countedOf b (headerOf p)) ds k)) (a .byte (pidOf p) own) (own-counted (counted p cs) cs ds h k a)
+
+      own-3 : (cs ds : List ℕ) (h k : Held) → AlikeWith h cs k ds → AlikeStep (step3 t p cs h) (step3 t p ds k)
+      own-3 cs ds h k a =
+          cond-alike (eqb (pidOf p) nullPid || eqb (controlOf p) 0) (record { held = h; counters = cs; events = [] }) (step4 t p cs h)
+          (record { held = k; counters = ds; events = [] }) (step4 t p ds k) a (own-4 cs ds h k a)
+
+      own-2 : (cs ds : List ℕ) (h k : Held) → AlikeWith h cs k ds → AlikeStep (step2 t p cs h) (step2 t p ds k)
+      own-2 cs ds h k a = cond-alike (errorBit p) _ (step3 t p cs h) _ (step3 t p ds k) a (own-3 cs ds h k a)
+
+      pub own-1 : rightSync p ≡ true → (cs ds : List ℕ) (h k : Held) → AlikeWith h cs k ds → AlikeStep (step1 t p cs h) (step1 t p ds k)
+      unfolding step1
+      own-1 right cs ds h k a =
+          subst (λ (y : Synced). AlikeStep (afterSync t p cs h y) (step1 t p ds k)) (sym (in-sync p h right (a .held .left)))
+          (subst (λ (y : Synced). AlikeStep (step2 t p cs (synced h)) (afterSync t p ds k y)) (sym (in-sync p k right (a .held .right)))
+          (own-2 cs ds (synced h) (synced k)
+          (with-tables h k (synced h) (synced k) cs ds a
+          (alike-trans mine (synced h) h (synced k) (synced-alike h (a .held .left))
+          (alike-trans mine h k (synced k) (a .held) (alike-sym mine (synced k) k (synced-alike k (a .held .right))))))))

@@ -1,0 +1,7 @@
+pub mod Runs
+pub mod Listening
+pub mod Judgements
+pub mod Pages
+pub mod Refused
+pub mod Conditions
+pub mod Others
