@@ -1,9 +1,9 @@
 -- Finished sections act apart from the room that they were built in: what follows them in the payload may be built before they act, or
 -- after. Assumes nothing.
 use mathlib.Core.Path.{_≡_, refl, sym, ap, ap₂, _∙_}
-use mathlib.Core.Bool.{Bool, true, false, cond, _&&_}
-use mathlib.Core.List.{List, [], _∷_, _++_, append-assoc}
-use Prim.Native.Nat.{ℕ, zero, suc, _+_, _≤_, _<_}
+use mathlib.Core.Bool.{Bool, true, false, cond}
+use mathlib.Core.List.{List, [], _∷_, _++_}
+use Prim.Native.Nat.{ℕ, _≤_}
 use native.Mathlib.Omega.{arith}
 use lib.Dec.{eqb}
 use lib.ListN.{length, set}
@@ -11,8 +11,8 @@ use borrow.Author.Tests.{eqb-true}
 use Rattle.events.specs.declared.Event.{Event}
 use Rattle.sections.specs.declared.Outcome.{Outcome}
 use Rattle.sections.specs.declared.Outcome.the-variants.{Unfinished, Good, Fault, Silent}
-use Rattle.sections.specs.Rooms.{roomCount, patRoom}
-use Rattle.sections.specs.Building.{Finished, badLength, whole, Job, fed}
+use Rattle.sections.specs.Rooms.{patRoom}
+use Rattle.sections.specs.Building.{Finished, Job, fed}
 use Rattle.sections.specs.Outcomes.{isPmtRoom, outcomeOf}
 use Rattle.sections.proofs.Jobs.{behind, fed-behind, SoundJob, moved, fed-moved}
 use Rattle.programmes.specs.Places.{movedHalves, movedBytes}
@@ -21,7 +21,7 @@ use Rattle.calls.specs.Cores.{Held, listed}
 use Rattle.calls.specs.Steps.{arrivedTable, arrivedProgramme, newList, listedBy, relisted, listEvents, Absorbed, bytesOf, absorbedBy, absorbed, absorbedAll, builtIn}
 use Rattle.payloads.specs.Taking.{held}
 use Rattle.payloads.specs.Parts.{cameTo}
-use Rattle.payloads.proofs.Apart.{halves-apart, bytes-apart, bytes-length, bytes-elsewhere}
+use Rattle.payloads.proofs.Apart.{halves-apart, bytes-apart, bytes-elsewhere}
 
 -- a job on other memory
 abbrev pub inMemory : List ℕ → Job → Job

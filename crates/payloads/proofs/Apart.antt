@@ -1,19 +1,17 @@
 -- Half-built sections that move with the list leave the PAT's room as it is: the places of the list lie behind it. Assumes nothing.
 use mathlib.Core.Path.{_≡_, refl, sym, ap, ap₂, _∙_}
-use mathlib.Core.Logic.{_≢_}
-use mathlib.Core.Bool.{Bool, true, false, cond, _&&_}
+use mathlib.Core.Bool.{cond, _&&_}
 use mathlib.Core.List.{List, [], _∷_, _++_}
-use Prim.Native.Nat.{ℕ, zero, suc, _+_, _*_, _≤_, _<_}
+use Prim.Native.Nat.{ℕ, zero, suc, _+_, _≤_, _<_}
 use native.Mathlib.Omega.{arith}
-use lib.Dec.{ltb}
-use lib.ListN.{length, getD, set, take, drop}
+use lib.ListN.{length, set, take}
 use lib.Seq.{sets, set-comm, take-set-le, take-set-lt, drop-set-lt, length-sets, getD-set-other, set-append-left, length-take-le}
 use borrow.Author.Tests.{lt-ltb}
 use Rattle.lists.specs.Places.{part}
 use Rattle.watches.specs.declared.Entry.{Entry}
-use Rattle.sections.specs.Rooms.{patRoom, roomOfPlace, roomBase, greatestLength, halfBuilt}
+use Rattle.sections.specs.Rooms.{patRoom, roomOfPlace, roomBase, halfBuilt}
 use Rattle.sections.proofs.Jobs.{Elsewhere}
-use Rattle.programmes.specs.Places.{placeOf, isListed, pidAt, isFirst, halfAt, movedHalf, movedFrom, movedHalves, movedPlace, movedPlaces, movedBytes}
+use Rattle.programmes.specs.Places.{placeOf, isListed, pidAt, isFirst, halfAt, movedFrom, movedHalves, movedPlace, movedPlaces, movedBytes}
 
 -- LAYING BEHIND A PLACE
 sets-set : (l : List ℕ) (i b at : ℕ) (vs : List ℕ) → i < at → sets (set l i b) at vs ≡ set (sets l at vs) i b

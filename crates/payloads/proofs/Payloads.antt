@@ -1,38 +1,38 @@
 -- A payload: what goes on, and what begins. Assumes nothing.
-use mathlib.Core.Path.{_≡_, refl, sym, ap, ap₂, _∙_}
-use mathlib.Core.Bool.{Bool, true, false, cond, _&&_, true≢false}
-use mathlib.Core.List.{List, [], _∷_, _++_, append-nil}
-use Prim.Native.Nat.{ℕ, zero, suc, _+_, _-_, _≤_, _<_}
+use mathlib.Core.Path.{_≡_, refl, sym, ap, _∙_}
+use mathlib.Core.Bool.{Bool, true, false, true≢false}
+use mathlib.Core.List.{List, [], _∷_, append-nil}
+use Prim.Native.Nat.{ℕ, _+_, _-_, _≤_, _<_}
 use native.Mathlib.Nat.{add-zero}
 use native.Mathlib.Omega.{arith}
-use lib.Dec.{eqb, ltb}
-use lib.ListN.{length, getD, set, take, drop}
+use lib.Dec.{eqb}
+use lib.ListN.{length, take, drop}
 use borrow.Author.Tests.{ne-eqb, eq-eqb, lt-ltb, le-ltb}
 use Rattle.lists.proofs.Tests.{cond-either}
 use Rattle.lists.proofs.Turns.{rest-all}
 use Rattle.lists.proofs.Laying.{laid-none, laid-length, laid-turn}
-use Rattle.events.specs.Events.{numbersOf, eventsLaid}
+use Rattle.events.specs.Events.{numbersOf}
 use Rattle.sections.specs.declared.Stage.{Stage}
 use Rattle.sections.specs.declared.Stage.the-variants.{More, Bad, Whole}
 use Rattle.sections.specs.declared.Laid.{Laid}
 use Rattle.sections.specs.Rooms.{memorySize, roomCount, roomBase, greatestLength, halfBuilt}
 use Rattle.sections.specs.Section.{stageOf, isMore}
-use Rattle.sections.specs.Building.{Mode, going, done, fresh, stopped, Finished, badLength, whole, Job, ended, fed, resumed, anew, restarted, emptied, begunJob, pointerOf, built}
+use Rattle.sections.specs.Building.{Mode, going, done, fresh, stopped, Finished, badLength, whole, Job, ended, fed, anew, restarted, emptied, begunJob, pointerOf, built}
 use Rattle.sections.specs.Steps.{laidOf, laidIn}
 use Rattle.sections.proofs.Counts.{fed-done, fed-stopped, resumed-most}
-use Rattle.sections.proofs.Chunks.{Active, goes, Starts}
+use Rattle.sections.proofs.Chunks.{goes, Starts}
 use Rattle.sections.proofs.Jobs.{behind, SoundJob, fed-sound, empty-more}
-use Rattle.sections.proofs.Takes.{laid-size, laid-short, laid-fits, section-step, laid-out}
+use Rattle.sections.proofs.Takes.{laid-size, laid-short, laid-fits, section-step}
 use Rattle.programmes.specs.Places.{halfAt}
 use Rattle.calls.specs.declared.Core.{Core}
-use Rattle.calls.specs.Steps.{Absorbed, absorbedAll, absorbed, builtIn, sectionsTaken}
+use Rattle.calls.specs.Steps.{Absorbed, absorbedAll, absorbed, sectionsTaken}
 use Rattle.payloads.specs.declared.Taken.{Taken}
 use Rattle.payloads.specs.declared.Resumed.{Resumed}
 use Rattle.payloads.specs.Taking.{held}
 use Rattle.payloads.specs.Parts.{cameTo, acted, newSections, goingOn, isStopped, isBad, finished, Shown, Gone, Fit}
 use Rattle.payloads.proofs.Actions.{led, inMemory, came-behind}
 use Rattle.payloads.proofs.Kept.{few-kept}
-use Rattle.payloads.proofs.Sections.{empty, modeAfter, step-waits}
+use Rattle.payloads.proofs.Sections.{empty, step-waits}
 
 greatest-most : (r : ℕ) → greatestLength r ≤ 4093
 greatest-most r = cond-either (λ n. n ≤ 4093) (eqb r 3) 4093 1021 (omega arith) (omega arith)

@@ -1,12 +1,10 @@
 -- Sections of a payload, one after the other: where the code has come, and what is still to be fed. Assumes nothing.
 use mathlib.Core.Path.{_≡_, refl, sym, ap, ap₂, _∙_}
-use mathlib.Core.Bool.{Bool, true, false, cond, _&&_, true≢false}
-use mathlib.Core.List.{List, [], _∷_, _++_, append-assoc, append-nil}
-use Prim.Native.Nat.{ℕ, zero, suc, _+_, _≤_, _<_}
+use mathlib.Core.Bool.{true, false, cond, true≢false}
+use mathlib.Core.List.{List, [], _++_, append-assoc, append-nil}
+use Prim.Native.Nat.{ℕ, _+_, _≤_, _<_}
 use native.Mathlib.Nat.{add-zero}
-use native.Mathlib.Omega.{arith}
-use lib.Dec.{eqb}
-use lib.ListN.{length, getD, set, take, drop}
+use lib.ListN.{length, getD, take, drop}
 use lib.Seq.{drop-drop}
 use borrow.Author.Tests.{ne-eqb, eq-eqb}
 use Rattle.lists.proofs.Laying.{laid-none, laid-turn}
@@ -18,15 +16,14 @@ use Rattle.sections.specs.declared.Stage.the-variants.{More, Bad, Whole}
 use Rattle.sections.specs.declared.Laid.{Laid}
 use Rattle.sections.specs.Rooms.{memorySize, roomCount, roomBase, greatestLength, halfBuilt}
 use Rattle.sections.specs.Section.{stageOf, isMore}
-use Rattle.sections.specs.Building.{Mode, going, done, fresh, stopped, Finished, badLength, whole, Job, afterWhole, ended, inMode, fedBy, fed}
+use Rattle.sections.specs.Building.{Mode, going, fresh, stopped, badLength, whole, Job, afterWhole, ended, inMode, fedBy, fed}
 use Rattle.sections.specs.Steps.{laidOf, laidIn}
-use Rattle.sections.proofs.Counts.{fed-done, fed-stopped}
-use Rattle.sections.proofs.Chunks.{Active, goes, news, Starts}
-use Rattle.sections.proofs.Jobs.{behind, SoundJob, empty-more}
+use Rattle.sections.proofs.Counts.{fed-stopped}
+use Rattle.sections.proofs.Chunks.{Active, news, Starts}
+use Rattle.sections.proofs.Jobs.{SoundJob, empty-more}
 use Rattle.sections.proofs.Takes.{laid-size, laid-fits, laid-three, section-step, laid-out}
 use Rattle.calls.specs.declared.Core.{Core}
-use Rattle.calls.specs.Cores.{Held}
-use Rattle.calls.specs.Steps.{Absorbed, absorbedAll, builtIn}
+use Rattle.calls.specs.Steps.{Absorbed, absorbedAll}
 use Rattle.payloads.specs.declared.Taken.{Taken}
 use Rattle.payloads.specs.Taking.{held}
 use Rattle.payloads.specs.Parts.{cameTo, acted, newSections, isBad, finished, Shown, Fit}

@@ -2,7 +2,7 @@
 use mathlib.Core.Path.{_≡_, refl, sym, ap, _∙_}
 use mathlib.Core.Bool.{Bool, true, false, cond}
 use mathlib.Core.List.{List, [], _∷_}
-use Prim.Native.Nat.{ℕ, _+_, _≤_, _<_}
+use Prim.Native.Nat.{ℕ, _≤_}
 use native.Mathlib.Omega.{arith}
 use lib.ListN.{length}
 use denote.Ref.{now}
@@ -19,7 +19,7 @@ use Rattle.sections.proofs.Outcome.{the-type}
 use Rattle.calls.specs.Cores.{Held}
 use Rattle.calls.specs.Steps.{absorbedBy}
 use Rattle.payloads.specs.Taking.{held}
-use Rattle.payloads.specs.Parts.{acted, Shown}
+use Rattle.payloads.specs.Parts.{acted}
 use borrow.Author.Needs.{needs}
 use Rattle.payloads.proofs.act.Statement.{statement}
 use Rattle.payloads.proofs.act.Tie as tie

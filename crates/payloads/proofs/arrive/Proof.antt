@@ -1,5 +1,5 @@
 -- `payloads::arrive` meets its contract. Assumes nothing.
-use mathlib.Core.Path.{_≡_, refl, sym, ap, _∙_}
+use mathlib.Core.Path.{refl}
 use borrow.Author.Tests.{ne-eqb, le-leb, lt-leb}
 use borrow.Author.Needs.{needs}
 use Rattle.payloads.proofs.arrive.Statement.{statement}

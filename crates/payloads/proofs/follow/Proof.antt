@@ -2,8 +2,7 @@
 -- the events laid so far; each finished section has taken three bytes or more. Assumes nothing.
 use borrow.Author.Needs.{needs}
 use mathlib.Core.Path.{_≡_, refl, sym, ap, _∙_}
-use mathlib.Core.Bool.{Bool, true, false}
-use Prim.Native.Nat.{ℕ, _+_, _-_, _*_, _≤_, _<_}
+use Prim.Native.Nat.{_+_, _-_, _*_, _≤_}
 use native.Mathlib.Omega.{arith}
 use lib.ListN.{length, drop, length-drop}
 use denote.Ref.{now}
@@ -12,7 +11,7 @@ use Rattle.sections.specs.Building.{fed}
 use Rattle.sections.proofs.Jobs.{empty-more}
 use Rattle.payloads.specs.declared.Taken.{Taken}
 use Rattle.payloads.specs.Taking.{held}
-use Rattle.payloads.specs.Parts.{cameTo, newSections, Shown, Fit}
+use Rattle.payloads.specs.Parts.{cameTo, newSections, Fit}
 use Rattle.payloads.proofs.Sections.{NewSection, Reached, reached-begins, stuffing-ends, bytes-end, section-fit, section-inside, section-three, section-leaves, section-waits, section-follows, section-stops}
 use Rattle.payloads.proofs.follow.Statement.{statement}
 use Rattle.payloads.proofs.follow.Tie as tie

@@ -1,5 +1,4 @@
 -- `payloads::outcome_in` meets its contract. Assumes nothing.
-use mathlib.Core.Path.{_≡_, refl, sym, ap, _∙_}
 use denote.Ref.{now}
 use Rattle.sections.specs.Rooms.{roomBase}
 use Rattle.lists.proofs.Places.{part-lent}

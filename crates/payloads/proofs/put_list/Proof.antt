@@ -1,5 +1,5 @@
 -- `payloads::put_list` meets its contract. Assumes nothing.
-use mathlib.Core.Path.{_≡_, refl, sym, ap, _∙_}
+use mathlib.Core.Path.{sym}
 use native.Mathlib.Nat.{add-zero}
 use Rattle.lists.proofs.Laying.{laid-none}
 use borrow.Author.Needs.{needs}

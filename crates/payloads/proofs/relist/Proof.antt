@@ -1,5 +1,5 @@
 -- `payloads::relist` meets its contract. Assumes nothing.
-use mathlib.Core.Path.{_≡_, refl, sym, ap, _∙_}
+use mathlib.Core.Path.{ap}
 use Rattle.programmes.specs.declared.Listed.{Listed}
 use borrow.Author.Needs.{needs}
 use Rattle.payloads.proofs.relist.Statement.{statement}

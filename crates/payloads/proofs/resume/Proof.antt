@@ -1,5 +1,5 @@
 -- `payloads::resume` meets its contract. Assumes nothing.
-use mathlib.Core.Path.{_≡_, refl, sym, ap, _∙_}
+use mathlib.Core.Path.{sym, _∙_}
 use native.Mathlib.Omega.{arith}
 use denote.Ref.{now}
 use Rattle.payloads.proofs.Payloads.{gone-none, going-fit, going-inside, going-short, gone-waits, gone-acts}

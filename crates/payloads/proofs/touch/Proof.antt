@@ -1,6 +1,4 @@
 -- `payloads::touch` meets its contract. Assumes nothing.
-use mathlib.Core.Path.{_≡_, refl, sym, ap, _∙_}
-use borrow.Author.Needs.{needs}
 use Rattle.payloads.proofs.touch.Statement.{statement}
 use Rattle.payloads.proofs.touch.Tie as tie
 
