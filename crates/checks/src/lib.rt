@@ -94,15 +94,6 @@ fn run_sound(lost: bool, run: u8) -> bool
     run <= 1
 }
 
-fn least(a: usize, b: usize) -> usize
-    ensures { λ r. ⌜ (r ≤ a) × (r ≤ b) × (r < a → r ≡ b) ⌝ }
-{
-    if a < b {
-        return a;
-    }
-    b
-}
-
 // Whether the half-built bytes of a room are still to be built on. A given length may reach past the end
 // of section memory: what is there is judged.
 fn room_sound(memory: &[u8], room: usize, half: u16) -> bool
@@ -113,7 +104,7 @@ fn room_sound(memory: &[u8], room: usize, half: u16) -> bool
         return true;
     }
     let base = sections::room_base(room);
-    let n = least(half as usize, memory.len() - base);
+    let n = sections::least(half as usize, memory.len() - base);
     let top = sections::greatest_length(room);
     let stage = sections::stage_of(&memory[base..base + n], top);
     sections::is_more(stage)

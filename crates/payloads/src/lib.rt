@@ -57,16 +57,6 @@ const BAD: u8 = 4;
 
 const STUFFING: u8 = 0xFF;
 
-fn is_more(g: Stage) -> bool
-    ensures { λ r. ⌜ r ≡ isMore g ⌝ }
-{
-    match g {
-        Stage::More => true,
-        Stage::Bad => false,
-        Stage::Whole => false,
-    }
-}
-
 fn is_bad(g: Stage) -> bool
     ensures { λ r. ⌜ r ≡ isBad g ⌝ }
 {
@@ -285,7 +275,7 @@ fn follow(
         }
         let l = sections::lay(memory, room, 0, &s[at..]);
         let stage = l.stage;
-        if is_more(stage) {
+        if sections::is_more(stage) {
             return finish(core, room, l.length, n);
         }
         let a = act(core, memory, room, pid, stage, l.length, time, numbers, n);
@@ -327,7 +317,7 @@ fn resume(
     }
     let l = sections::lay(memory, room, half, s);
     let stage = l.stage;
-    if is_more(stage) {
+    if sections::is_more(stage) {
         return Resumed {
             core: core,
             n: n,

@@ -129,7 +129,7 @@ fn to_third(half: usize) -> usize
     0
 }
 
-fn least(a: usize, b: usize) -> usize
+pub fn least(a: usize, b: usize) -> usize
     ensures { λ r. ⌜ (r ≤ a) × (r ≤ b) × (r < a → r ≡ b) ⌝ }
 {
     if a < b {
