@@ -1,0 +1,3 @@
+pub mod Tabled
+pub mod Packing
+pub mod Back

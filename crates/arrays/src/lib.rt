@@ -1,0 +1,230 @@
+// The state as a host lends it: two arrays, by the width of their numbers, and the way to and from the
+// state by value.
+use calls::Core;
+use calls::State;
+use watches::Entry;
+ghost use mathlib.Core.Path.{_≡_};
+ghost use mathlib.Core.List.{[], _∷_, map};
+ghost use lib.ListN.{length};
+ghost use lib.Seq.{sets};
+ghost use Rattle.lists.specs.Places.{part};
+ghost use Rattle.arrays.specs.Lent.{timeCount, wordCount, lostWord, countWord, lostIn, runIn, tabled, entryIn, timesOf, wordsOf, stateIn};
+
+// where the numbers of a state stand in the two arrays
+const GAPS: usize = 1;
+
+const SINCES: usize = 6;
+
+const NUMBERS: usize = 0;
+
+const PIDS: usize = 16;
+
+const HALVES: usize = 32;
+
+const LOST: usize = 53;
+
+const RUN: usize = 54;
+
+const COUNT: usize = 55;
+
+// The gap starts of the fixed tables.
+fn gaps_in(times: &[u64]) -> [u64; 5]
+    requires { ⌜ length (now times) ≡ timeCount ⌝ }
+    ensures { λ r. ⌜ r ≡ part (now (times .entry)) 1 5 ⌝ }
+{
+    let mut out = [0u64; 5];
+    let mut k: usize = 0;
+    while k < 5 {
+        out[k] = times[GAPS + k];
+        k += 1;
+    }
+    out
+}
+
+// The half-built lengths.
+fn halves_in(words: &[u16]) -> [u16; 21]
+    requires { ⌜ length (now words) ≡ wordCount ⌝ }
+    ensures { λ r. ⌜ r ≡ part (now (words .entry)) 32 21 ⌝ }
+{
+    let mut out = [0u16; 21];
+    let mut k: usize = 0;
+    while k < 21 {
+        out[k] = words[HALVES + k];
+        k += 1;
+    }
+    out
+}
+
+// The sixteen entries.
+fn entries_in(times: &[u64], words: &[u16]) -> [Entry; 16]
+    requires { ⌜ (length (now times) ≡ timeCount) × (length (now words) ≡ wordCount) ⌝ }
+    ensures { λ r. ⌜ r ≡ tabled (entryIn (now (times .entry)) (now (words .entry))) 0 16 ⌝ }
+{
+    let mut out = [Entry {
+        number: 0,
+        pid: 0,
+        since: 0,
+    }; 16];
+    let mut k: usize = 0;
+    while k < 16 {
+        out[k] = Entry {
+            number: words[k],
+            pid: words[PIDS + k],
+            since: times[SINCES + k],
+        };
+        k += 1;
+    }
+    out
+}
+
+// A run that a byte holds.
+fn run_in(w: u16) -> u8
+    ensures { λ r. ⌜ r ≡ runIn w ⌝ }
+{
+    if w <= 255 {
+        return w as u8;
+    }
+    255
+}
+
+fn size_of(w: u16) -> usize
+    ensures { λ r. ⌜ r ≡ w ⌝ }
+{
+    w as usize
+}
+
+// The state that two arrays hold.
+pub fn state_in(times: &[u64], words: &[u16]) -> State
+    requires { ⌜ (length (now times) ≡ timeCount) × (length (now words) ≡ wordCount) ⌝ }
+    ensures { λ r. ⌜ r ≡ stateIn (now (times .entry)) (now (words .entry)) ⌝ }
+{
+    State {
+        latest: times[0],
+        core: Core {
+            lost: words[LOST] != 0,
+            run: run_in(words[RUN]),
+            since: gaps_in(times),
+            count: size_of(words[COUNT]),
+            entries: entries_in(times, words),
+            half: halves_in(words),
+        },
+    }
+}
+
+// The gap starts of the fixed tables, laid into the times.
+fn lay_gaps(times: &mut [u64], since: [u64; 5])
+    requires { ⌜ length (now times) ≡ timeCount ⌝ }
+    ensures { λ _. ⌜ now (times .exit) ≡ sets (now (times .entry)) 1 since ⌝ }
+{
+    let mut k: usize = 0;
+    while k < 5 {
+        times[GAPS + k] = since[k];
+        k += 1;
+    }
+}
+
+// Those of the entries.
+fn lay_sinces(times: &mut [u64], entries: [Entry; 16])
+    requires { ⌜ length (now times) ≡ timeCount ⌝ }
+    ensures { λ _. ⌜ (now (times .exit) ≡ sets (now (times .entry)) 6 (map (λ e. e .since) entries)) × (length entries ≡ 16) ⌝ }
+{
+    let mut k: usize = 0;
+    while k < 16 {
+        let e = entries[k];
+        times[SINCES + k] = e.since;
+        k += 1;
+    }
+}
+
+// The programme numbers of the entries, laid into the words.
+fn lay_numbers(words: &mut [u16], entries: [Entry; 16])
+    requires { ⌜ length (now words) ≡ wordCount ⌝ }
+    ensures { λ _. ⌜ (now (words .exit) ≡ sets (now (words .entry)) 0 (map (λ e. e .number) entries)) × (length entries ≡ 16) ⌝ }
+{
+    let mut k: usize = 0;
+    while k < 16 {
+        let e = entries[k];
+        words[NUMBERS + k] = e.number;
+        k += 1;
+    }
+}
+
+// Their PIDs.
+fn lay_pids(words: &mut [u16], entries: [Entry; 16])
+    requires { ⌜ length (now words) ≡ wordCount ⌝ }
+    ensures { λ _. ⌜ now (words .exit) ≡ sets (now (words .entry)) 16 (map (λ e. e .pid) entries) ⌝ }
+{
+    let mut k: usize = 0;
+    while k < 16 {
+        let e = entries[k];
+        words[PIDS + k] = e.pid;
+        k += 1;
+    }
+}
+
+// The half-built lengths.
+fn lay_halves(words: &mut [u16], half: [u16; 21])
+    requires { ⌜ length (now words) ≡ wordCount ⌝ }
+    ensures { λ _. ⌜ (now (words .exit) ≡ sets (now (words .entry)) 32 half) × (length half ≡ 21) ⌝ }
+{
+    let mut k: usize = 0;
+    while k < 21 {
+        words[HALVES + k] = half[k];
+        k += 1;
+    }
+}
+
+// The times of a state.
+pub fn lay_times(state: State, times: &mut [u64])
+    requires { ⌜ length (now times) ≡ timeCount ⌝ }
+    ensures { λ _. ⌜ now (times .exit) ≡ timesOf state ⌝ }
+{
+    times[0] = state.latest;
+    let since = state.core.since;
+    lay_gaps(times, since);
+    let entries = state.core.entries;
+    lay_sinces(times, entries);
+}
+
+fn lost_word(lost: bool) -> u16
+    ensures { λ r. ⌜ r ≡ lostWord lost ⌝ }
+{
+    if lost {
+        return 1;
+    }
+    0
+}
+
+fn count_word(count: usize) -> u16
+    ensures { λ r. ⌜ r ≡ countWord count ⌝ }
+{
+    if count <= 65535 {
+        return count as u16;
+    }
+    65535
+}
+
+// Sync and the length of the list, laid behind the rest.
+fn lay_marks(words: &mut [u16], lost: u16, run: u16, count: u16)
+    requires { ⌜ length (now words) ≡ wordCount ⌝ }
+    ensures { λ _. ⌜ now (words .exit) ≡ sets (now (words .entry)) 53 (lost ∷ run ∷ count ∷ []) ⌝ }
+{
+    words[LOST] = lost;
+    words[RUN] = run;
+    words[COUNT] = count;
+}
+
+// The words of a state.
+pub fn lay_words(state: State, words: &mut [u16])
+    requires { ⌜ length (now words) ≡ wordCount ⌝ }
+    ensures { λ _. ⌜ now (words .exit) ≡ wordsOf state ⌝ }
+{
+    let entries = state.core.entries;
+    lay_numbers(words, entries);
+    lay_pids(words, entries);
+    let half = state.core.half;
+    lay_halves(words, half);
+    let lost = lost_word(state.core.lost);
+    let count = count_word(state.core.count);
+    lay_marks(words, lost, state.core.run as u16, count);
+}

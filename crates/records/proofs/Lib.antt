@@ -1,0 +1,4 @@
+pub mod Over
+pub mod Scratch
+pub mod ReadBack
+pub mod Rooms
