@@ -1,0 +1,84 @@
+//! A multiplex of 60 Mbit/s: so many packets in a hundred carry tables, the others video.
+
+use songpigeon_reference::streams::*;
+use songpigeon_reference::testdata::{self, Head, Section, Syntax};
+
+/// Ticks of 27 MHz from packet to packet.
+const TICKS: u64 = 188 * 8 * 27 / 60;
+
+pub struct Stream(Vec<u8>);
+
+impl Stream {
+    pub fn new(packets: usize, share: usize, programmes: u16) -> Stream {
+        let tables = Tables::new(programmes);
+        let mut bytes = Vec::with_capacity(188 * packets);
+        let mut counters = [15u8; 8_192];
+        let mut add = |packet: &mut [u8; 188]| {
+            let pid = usize::from(u16::from_be_bytes([packet[1], packet[2]]) & 0x1FFF);
+            counters[pid] = (counters[pid] + 1) & 15;
+            packet[3] |= counters[pid];
+            bytes.extend(&packet[..]);
+        };
+        for k in 0..packets {
+            // the first packet lists the programmes in every mix
+            let table = k == 0 || k % 100 < share;
+            let number = if k == 0 { 0 } else { k / 100 * share + k % 100 };
+            let video = 0x0400 + (k % 37) as u16;
+            add(&mut if table { tables.packet(number) } else { Packet::on(video, 0).bytes() });
+        }
+        Stream(bytes)
+    }
+
+    pub fn packets(&self) -> impl Iterator<Item = (u64, &[u8])> {
+        self.0.chunks_exact(188).enumerate().map(|(k, packet)| (TICKS * k as u64, packet))
+    }
+
+    pub fn text(&self) -> Vec<u8> {
+        let mut text = b"0\t-\n".to_vec();
+        for (time, packet) in self.packets() {
+            text.extend(format!("{}\t", time).bytes());
+            text.extend(packet.iter().flat_map(|byte| format!("{:02x}", byte).into_bytes()));
+            text.push(b'\n');
+        }
+        text
+    }
+}
+
+/// The tables' packets in turn, with counter 0: PAT, a PMT for each programme, and the SI; a section of 120 bytes fits
+/// one.
+struct Tables(Vec<[u8; 188]>);
+
+impl Tables {
+    fn new(programmes: u16) -> Tables {
+        let list: Vec<(u16, u16)> = (1..=programmes).map(|n| (n, 0x0100 + n)).collect();
+        let on = |pid, section: Vec<u8>| Packet::sections(pid, 0, &[&section]).bytes();
+        let mut all = vec![on(PAT_PID, pat(&list))];
+        for &(number, pid) in &list {
+            all.push(on(pid, section(0x02, number, &[0x5A; 60])));
+        }
+        all.push(on(NIT_PID, section(0x40, 1, &[0x5A; 108])));
+        all.push(on(SDT_PID, section(0x42, 1, &[0x5A; 108])));
+        all.push(on(EIT_PID, section(0x4E, 1, &[0x5A; 108])));
+        all.push(on(TDT_PID, tdt()));
+        Tables(all)
+    }
+
+    fn packet(&self, number: usize) -> [u8; 188] {
+        self.0[number % self.0.len()]
+    }
+}
+
+/// A test data section of 4,096 bytes.
+pub fn test_data() -> Vec<u8> {
+    let data: Vec<u8> = (0..4_082u32).map(|k| (k * 31) as u8).collect();
+    let section = Section {
+        head: Head { table_id: 0x11, priority: 0, reserved: 7 },
+        syntax: Some(Syntax { current_next: 1, ..Syntax::default() }),
+        descriptors: &[],
+        data: &data,
+    };
+    let mut place = vec![0; 4_096];
+    let n = testdata::write(&section, &mut place).expect("it fits");
+    place.truncate(n);
+    place
+}
