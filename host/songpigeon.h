@@ -37,6 +37,13 @@ typedef struct {
     size_t n;
 } songpigeon_reply;
 
+/* refusal 0: all packets were accepted; else that of the first that was not, behind so many that were */
+typedef struct {
+    uint32_t refusal;
+    size_t accepted;
+    size_t n;
+} songpigeon_ran;
+
 /* refusal 0: written, so many bytes */
 typedef struct {
     uint8_t refusal;
@@ -58,6 +65,13 @@ songpigeon_reply songpigeon_open(uint64_t *times, uint16_t *words, uint64_t time
 songpigeon_reply songpigeon_packet(uint64_t *times, uint16_t *words, uint64_t time, const uint8_t *packet,
                                    size_t packet_length, uint8_t *counters, size_t counters_length, uint8_t *memory,
                                    songpigeon_event *events, size_t events_length);
+
+/* A run of packets, 188 bytes each, one after the other at their arrival times, up to the first refusal (1 to 6). Events are
+ * laid as four numbers each: stamp, fault, cause, id. Refusal 3: room for fewer than 96 events is left; take those out and
+ * go on with the packets that were not accepted. */
+songpigeon_ran songpigeon_packets(uint64_t *times, uint16_t *words, const uint64_t *arrivals, size_t arrivals_length,
+                                  const uint8_t *packets, size_t packets_length, uint8_t *counters,
+                                  size_t counters_length, uint8_t *memory, uint64_t *numbers, size_t numbers_length);
 
 /* Refusals 3 to 6. */
 songpigeon_reply songpigeon_clock(uint64_t *times, uint16_t *words, uint64_t time, const uint8_t *memory,

@@ -24,7 +24,7 @@ pub record Shaped (s : State) : Type 0 where
   pub run : s .core .run ≤ 255
   pub count : s .core .count ≤ 65535
 
-getD-tabled : {A : Type 0} (f : ℕ → A) (k n i : ℕ) (d : A) → i < n → getD (tabled f k n) i d ≡ f (k + i)
+pub getD-tabled : {A : Type 0} (f : ℕ → A) (k n i : ℕ) (d : A) → i < n → getD (tabled f k n) i d ≡ f (k + i)
 unfolding tabled
 getD-tabled f k zero i d h = absurd (omega arith)
 getD-tabled f k (suc n) zero d h = ap f (omega arith)

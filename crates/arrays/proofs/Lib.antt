@@ -1,3 +1,4 @@
 pub mod Tabled
 pub mod Packing
 pub mod Back
+pub mod Shapes

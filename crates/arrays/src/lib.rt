@@ -10,6 +10,13 @@ ghost use lib.Seq.{sets};
 ghost use Rattle.lists.specs.Places.{part};
 ghost use Rattle.arrays.specs.Lent.{timeCount, wordCount, lostWord, countWord, lostIn, runIn, tabled, entryIn, timesOf, wordsOf, stateIn};
 
+// What a host is told of a call: the refusal number (0: accepted) and the number of events.
+#[repr(C)]
+pub struct Reply {
+    pub refusal: u32,
+    pub n: usize,
+}
+
 // where the numbers of a state stand in the two arrays
 const GAPS: usize = 1;
 
@@ -26,6 +33,31 @@ const LOST: usize = 53;
 const RUN: usize = 54;
 
 const COUNT: usize = 55;
+
+fn times_in(s: &[u64]) -> usize
+    ensures { λ r. ⌜ r ≡ length (now (s .entry)) ⌝ }
+{
+    s.len()
+}
+
+fn words_in(s: &[u16]) -> usize
+    ensures { λ r. ⌜ r ≡ length (now (s .entry)) ⌝ }
+{
+    s.len()
+}
+
+// The arrays have their lengths by their types: a call of these shows it.
+pub fn time_count(times: &[u64; 22]) -> usize
+    ensures { λ r. ⌜ (r ≡ timeCount) × (length (now (times .entry)) ≡ timeCount) ⌝ }
+{
+    times_in(times)
+}
+
+pub fn word_count(words: &[u16; 56]) -> usize
+    ensures { λ r. ⌜ (r ≡ wordCount) × (length (now (words .entry)) ≡ wordCount) ⌝ }
+{
+    words_in(words)
+}
 
 // The gap starts of the fixed tables.
 fn gaps_in(times: &[u64]) -> [u64; 5]

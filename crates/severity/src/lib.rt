@@ -6,6 +6,7 @@ ghost use Rattle.severity.specs.Severity.{rowOf, setFor, numberOf, worst
 
 // The answer: the refusal number (0: none), the classes as a set (TOA 16, POA 8, CM 4, QOS 2,
 // TNC 1), how many they are, and the worst one.
+#[repr(C)]
 pub struct Verdict {
     pub refusal: u32,
     pub set: u32,

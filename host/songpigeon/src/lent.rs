@@ -37,6 +37,16 @@ pub struct Reply {
     pub n: usize,
 }
 
+/// The number of the refusal that ended a run (0: all packets were accepted), how many were accepted, and the number of
+/// their events.
+#[repr(C)]
+#[derive(Clone, Copy, Debug, PartialEq, Eq)]
+pub struct Ran {
+    pub refusal: u32,
+    pub accepted: usize,
+    pub n: usize,
+}
+
 #[repr(C)]
 #[derive(Clone, Copy, Debug, PartialEq, Eq)]
 pub struct Verdict {
@@ -47,7 +57,7 @@ pub struct Verdict {
 }
 
 mod exported {
-    use super::{Event, Reply, Verdict};
+    use super::{Event, Ran, Reply, Verdict};
 
     extern "C" {
         pub fn songpigeon_open(
@@ -69,6 +79,19 @@ mod exported {
             events: *mut Event,
             events_length: usize,
         ) -> Reply;
+        pub fn songpigeon_packets(
+            times: *mut u64,
+            words: *mut u16,
+            arrivals: *const u64,
+            arrivals_length: usize,
+            packets: *const u8,
+            packets_length: usize,
+            counters: *mut u8,
+            counters_length: usize,
+            memory: *mut u8,
+            numbers: *mut u64,
+            numbers_length: usize,
+        ) -> Ran;
         pub fn songpigeon_clock(
             times: *mut u64,
             words: *mut u16,
@@ -112,6 +135,35 @@ pub fn packet(
             memory.as_mut_ptr(),
             events.as_mut_ptr(),
             events.len(),
+        )
+    }
+}
+
+/// A run of packets, 188 bytes each, one after the other at their arrival times, up to the first refusal. Events are laid
+/// as four numbers each: stamp, fault, cause, id.
+pub fn packets(
+    times: &mut Times,
+    words: &mut Words,
+    arrivals: &[u64],
+    packets: &[u8],
+    counters: &mut [u8],
+    memory: &mut Memory,
+    numbers: &mut [u64],
+) -> Ran {
+    // SAFETY: as above.
+    unsafe {
+        exported::songpigeon_packets(
+            times.as_mut_ptr(),
+            words.as_mut_ptr(),
+            arrivals.as_ptr(),
+            arrivals.len(),
+            packets.as_ptr(),
+            packets.len(),
+            counters.as_mut_ptr(),
+            counters.len(),
+            memory.as_mut_ptr(),
+            numbers.as_mut_ptr(),
+            numbers.len(),
         )
     }
 }

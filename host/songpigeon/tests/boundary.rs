@@ -1,6 +1,6 @@
 //! What the boundary asks and gives: sizes and places of fields as `host/songpigeon.h` has them, and each call over it.
 
-use songpigeon::lent::{self, Event, Reply, Verdict};
+use songpigeon::lent::{self, Event, Ran, Reply, Verdict};
 use songpigeon::testdata::{self, Fields};
 use songpigeon::{severity, Kind, Probe, Refusal};
 use std::mem::{align_of, size_of};
@@ -140,4 +140,53 @@ fn test_data_there_and_back() {
     assert_eq!(testdata::read(&[]).err(), Some(Refusal(11)));
     assert_eq!(testdata::write(&fields, &row, &[], &mut []), Err(Refusal(15)));
     assert_eq!(testdata::write(&fields, &[0x40, 3], &[], &mut []), Err(Refusal(14)));
+}
+
+/// A run is its packets one by one: the same events, state, table and memory, up to the first refusal.
+#[test]
+fn a_run_is_its_packets_one_by_one() {
+    let mut wrong = packet();
+    let packets: Vec<u8> = (0..40u8)
+        .flat_map(|k| {
+            wrong[0] = if k % 7 < 2 { 0 } else { 0x47 };
+            wrong[3] = 0x10 | (k * 3 % 16);
+            wrong
+        })
+        .collect();
+    let arrivals: Vec<u64> = (0..40).map(|k| if k == 33 { 0 } else { k * 1_000_000 }).collect();
+    let open = || {
+        let (mut times, mut words) = ([0; lent::TIMES], [0; lent::WORDS]);
+        let mut counters = vec![0; lent::COUNTERS];
+        assert_eq!(lent::open(&mut times, &mut words, 0, &mut counters).refusal, 0);
+        (times, words, counters, [0u8; lent::MEMORY])
+    };
+    let (mut times, mut words, mut counters, mut memory) = open();
+    let mut expected = Vec::new();
+    let mut accepted = 0;
+    let mut refusal = 0;
+    for (&time, packet) in arrivals.iter().zip(packets.chunks(188)) {
+        let mut events = [Event::default(); lent::EVENT_ROOM];
+        let reply = lent::packet(&mut times, &mut words, time, packet, &mut counters, &mut memory, &mut events);
+        refusal = reply.refusal;
+        if refusal != 0 {
+            break;
+        }
+        accepted += 1;
+        for e in &events[..reply.n] {
+            expected.extend([e.stamp, e.fault.into(), e.cause.into(), e.id.into()]);
+        }
+    }
+    assert_eq!((accepted, refusal), (33, 6));
+    let (mut t, mut w, mut c, mut m) = open();
+    let mut numbers = vec![77; 4_000];
+    let ran = lent::packets(&mut t, &mut w, &arrivals, &packets, &mut c, &mut m, &mut numbers);
+    assert_eq!(ran, Ran { refusal, accepted, n: expected.len() / 4 });
+    assert_eq!(numbers[..expected.len()], expected);
+    assert!(numbers[expected.len()..].iter().all(|&x| x == 77));
+    assert!((t, w, &c, m) == (times, words, &counters, memory));
+    // 188 bytes for each time, or nothing happens
+    let before = (t, w, c.clone());
+    let ran = lent::packets(&mut t, &mut w, &arrivals[..2], &packets[..375], &mut c, &mut m, &mut numbers);
+    assert_eq!(ran, Ran { refusal: 1, accepted: 0, n: 0 });
+    assert!((t, w, c) == before);
 }

@@ -1,0 +1,57 @@
+-- The calls as a host makes them: document 01, "The calls and their numbers", with the state lent as two arrays (crate arrays). A refusal writes no
+-- lent memory, and so the arrays stay as they were, at a refused opening too (docs/DECISIONS.md, F10).
+--
+--   OpenDone t counters r .. == an opening at t is what was done: r is its reply, and arrays and counter table are left as it says
+--   PacketDone x r .. == the result x of a packet call is what was done: r is its reply, and arrays, counter table, section memory and list are left as
+--                        it says; of arrays and list first as they were, then as they are
+--   ClockDone x r ..  == the same of a clock call, which writes neither table nor section memory
+--   PacketLaid, ClockLaid == the same, with the events laid as numbers
+use Prim.Native.Nat.{ℕ}
+use mathlib.Core.Path.{_≡_}
+use mathlib.Core.List.{List}
+use Rattle.events.specs.declared.Event.{Event}
+use Rattle.calls.specs.Calls.{Result, openAnswer, openTable, answerOf, handedOver}
+use Rattle.engine.specs.Numbers.{Numbered}
+use Rattle.arrays.specs.declared.Reply.{Reply}
+use Rattle.arrays.specs.Replies.{replyOf, timesAfter, wordsAfter}
+
+-- WHAT A CALL HAS DONE
+abbrev pub OpenDone : ℕ → List ℕ → Reply → (times timesLeft words wordsLeft countersLeft : List ℕ) → Type 0
+OpenDone t counters r times timesLeft words wordsLeft countersLeft =
+    (r ≡ replyOf (openAnswer t counters))
+    × (timesLeft ≡ timesAfter (openAnswer t counters) times)
+    × (wordsLeft ≡ wordsAfter (openAnswer t counters) words)
+    × (countersLeft ≡ openTable t counters)
+
+abbrev pub PacketDone : Result → Reply → (times timesLeft words wordsLeft counters memory : List ℕ) (old events : List Event) → Type 0
+PacketDone x r times timesLeft words wordsLeft counters memory old events =
+    (r ≡ replyOf (answerOf x))
+    × (timesLeft ≡ timesAfter (answerOf x) times)
+    × (wordsLeft ≡ wordsAfter (answerOf x) words)
+    × (counters ≡ x .counters)
+    × (memory ≡ x .memory)
+    × (events ≡ handedOver (x .events) old)
+
+abbrev pub ClockDone : Result → Reply → (times timesLeft words wordsLeft : List ℕ) (old events : List Event) → Type 0
+ClockDone x r times timesLeft words wordsLeft old events =
+    (r ≡ replyOf (answerOf x))
+    × (timesLeft ≡ timesAfter (answerOf x) times)
+    × (wordsLeft ≡ wordsAfter (answerOf x) words)
+    × (events ≡ handedOver (x .events) old)
+
+-- THE SAME OVER NUMBERS
+abbrev pub PacketLaid : Result → Reply → (times timesLeft words wordsLeft counters memory before after : List ℕ) → Type 0
+PacketLaid x r times timesLeft words wordsLeft counters memory before after =
+    (r ≡ replyOf (answerOf x))
+    × (timesLeft ≡ timesAfter (answerOf x) times)
+    × (wordsLeft ≡ wordsAfter (answerOf x) words)
+    × (counters ≡ x .counters)
+    × (memory ≡ x .memory)
+    × Numbered before after (x .events)
+
+abbrev pub ClockLaid : Result → Reply → (times timesLeft words wordsLeft before after : List ℕ) → Type 0
+ClockLaid x r times timesLeft words wordsLeft before after =
+    (r ≡ replyOf (answerOf x))
+    × (timesLeft ≡ timesAfter (answerOf x) times)
+    × (wordsLeft ≡ wordsAfter (answerOf x) words)
+    × Numbered before after (x .events)

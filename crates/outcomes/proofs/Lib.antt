@@ -1,0 +1,9 @@
+pub mod Alike
+pub mod Promises
+pub mod Once
+pub mod Card
+pub mod Inside
+pub mod Calls
+pub mod Beside
+pub mod WrongEngines
+pub mod Forgiven

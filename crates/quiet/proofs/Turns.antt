@@ -1,0 +1,107 @@
+-- The tests of a quiet call, one turn of each loop at a time. Assumes nothing.
+use mathlib.Core.Path.{_≡_, refl, sym, ap, _∙_}
+use mathlib.Core.Bool.{Bool, true, false, cond, not, _&&_, true≢false}
+use mathlib.Core.List.{List, [], _∷_}
+use Prim.Native.Nat.{ℕ, suc, _+_, _-_, _≤_, _<_}
+use native.Mathlib.Nat.{zero-add}
+use native.Mathlib.Omega.{arith}
+use lib.Dec.{eqb, leb}
+use lib.ListN.{length, getD, set, take, drop}
+use borrow.Author.Tests.{leb-false, eqb-true, ne-eqb}
+use Rattle.lists.proofs.Tests.{and-left, and-right}
+use Rattle.lists.specs.Places.{part}
+use Rattle.lists.proofs.Places.{part-turn}
+use Rattle.lists.proofs.Turns.{left-turn, left-none}
+use Rattle.watches.specs.declared.Entry.{Entry}
+use Rattle.watches.specs.Tables.{noEntry}
+use Rattle.header.specs.Header.{packetSize}
+use Rattle.calls.specs.Sound.{timeSound}
+use Rattle.calls.specs.Calls.{tableSize, leastRoom}
+use Rattle.arrays.specs.Lent.{lostIn, runIn, entryIn, tabled}
+use Rattle.arrays.proofs.Tabled.{part-tabled}
+use Rattle.arrays.proofs.Back.{getD-tabled}
+use Rattle.quiet.specs.Quiet.{entryQuiet, markOf, entriesQuiet, noneHalf, sizesQuiet, countQuiet, packetQuiet}
+
+-- THE FIVE GAP STARTS, by name
+pub five : (l : List ℕ) → length l ≡ 22 → part l 1 5 ≡ getD l 1 0 ∷ getD l 2 0 ∷ getD l 3 0 ∷ getD l 4 0 ∷ getD l 5 0 ∷ []
+unfolding tabled
+five l h = part-tabled l 0 1 5 (omega arith)
+
+pub cond-same : (b : Bool) → b ≡ cond b true false
+cond-same true = refl
+cond-same false = refl
+
+-- HALF-BUILT LENGTHS
+and-assoc : (a b c : Bool) → (a && (b && c)) ≡ (a && b && c)
+and-assoc true b c = refl
+and-assoc false b c = refl
+
+pub none-turn : (none : Bool) (l : List ℕ) (at k n : ℕ) → k < n → at + k < length l
+    → (none && noneHalf (part l (at + k) (n - k))) ≡ (none && eqb (getD l (at + k) 0) 0 && noneHalf (part l (at + (k + 1)) (n - (k + 1))))
+unfolding noneHalf
+none-turn none l at k n h g =
+    let left : n - k ≡ suc (n - (k + 1)) = omega arith in
+    let next : at + k + 1 ≡ at + (k + 1) = omega arith in
+    rw (left, part-turn l (at + k) (n - (k + 1)) 0 g, next) (and-assoc none (eqb (getD l (at + k) 0) 0) (noneHalf (part l (at + (k + 1)) (n - (k + 1)))))
+
+pub none-end : (none : Bool) (l : List ℕ) (at k n : ℕ) → n ≤ k → (none && noneHalf (part l (at + k) (n - k))) ≡ none
+unfolding noneHalf part
+none-end none l at k n h =
+    let left : n - k ≡ 0 = omega arith in
+    rw left (and-true none)
+  where
+    and-true : (b : Bool) → (b && true) ≡ b
+    and-true true = refl
+    and-true false = refl
+
+-- ENTRIES
+pub entry-at : (times words : List ℕ) (k : ℕ) → k < 16 → getD (tabled (entryIn times words) 0 16) k noEntry ≡ entryIn times words k
+entry-at times words k h = getD-tabled (entryIn times words) 0 16 k noEntry h ∙ ap (entryIn times words) (zero-add k)
+
+module _ (es : List Entry) (count i : ℕ) (fits : count ≤ length es) (p t q : ℕ) (marks : List Bool) where
+  pub entries-here : (e : Entry) → i < count → getD es i noEntry ≡ e → entryQuiet p t q e ≡ false → entriesQuiet p t q marks (drop i (take count es)) ≡ false
+  unfolding entriesQuiet
+  entries-here e h x f = rw (left-turn es count i noEntry h fits, x, f)
+
+  pub entries-marked : (e : Entry) → i < count → getD es i noEntry ≡ e → entryQuiet p t q e ≡ true → getD marks (markOf e) false ≡ true
+      → entriesQuiet p t q marks (drop i (take count es)) ≡ false
+  unfolding entriesQuiet
+  entries-marked e h x f g = rw (left-turn es count i noEntry h fits, x, f, g)
+
+  pub entries-on : (e : Entry) → i < count → getD es i noEntry ≡ e → entryQuiet p t q e ≡ true → getD marks (markOf e) false ≡ false
+      → entriesQuiet p t q marks (drop i (take count es)) ≡ entriesQuiet p t q (set marks (markOf e) true) (drop (i + 1) (take count es))
+  unfolding entriesQuiet
+  entries-on e h x f g = rw (left-turn es count i noEntry h fits, x, f, g)
+
+  pub entries-end : count ≤ i → entriesQuiet p t q marks (drop i (take count es)) ≡ true
+  unfolding entriesQuiet
+  entries-end h = rw (left-none es count i h fits)
+
+-- SYNC, in the words of the arrays
+pub sync-same : (lost run count : ℕ) → (eqb lost 0 && eqb run 0 && leb count 16) ≡ (not (lostIn lost) && eqb (runIn run) 0 && leb count 16)
+sync-same lost run count = rw (not-not (eqb lost 0), run-same (leb run 255) refl)
+  where
+    not-not : (b : Bool) → not (not b) ≡ b
+    not-not true = refl
+    not-not false = refl
+
+    run-same : (b : Bool) → leb run 255 ≡ b → eqb (cond b run 255) 0 ≡ eqb run 0
+    run-same true e = refl
+    run-same false e = sym (ne-eqb run 0 (λ z. omega (arith, leb-false run 255 e)))
+
+-- A LADDER of tests that is passed, and what its first rung says
+pub passed : (b x : Bool) → cond b x false ≡ true → (b ≡ true) × (x ≡ true)
+passed true x e = (refl, e)
+passed false x e = absurd (true≢false (sym e))
+
+module _ (t : ℕ) (x counters : List ℕ) (room : ℕ) where
+  pub sizes-lengths : sizesQuiet t x counters room ≡ true → (length x ≡ packetSize) × (length counters ≡ tableSize)
+  sizes-lengths e =
+      let a = eqb (length x) packetSize in
+      let b = eqb (length counters) tableSize in
+      let c = leb leastRoom room in
+      let ab = and-left (a && b) c (and-left (a && b && c) (timeSound t) e) in
+      (eqb-true (length x) packetSize (and-left a b ab), eqb-true (length counters) tableSize (and-right a b ab))
+
+  pub packet-lengths : packetQuiet t x counters room ≡ true → (length x ≡ packetSize) × (length counters ≡ tableSize)
+  packet-lengths e = sizes-lengths (passed (sizesQuiet t x counters room) (countQuiet x counters) e .0)

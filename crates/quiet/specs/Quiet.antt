@@ -1,0 +1,125 @@
+-- A quiet packet call: document 01, "Judging one packet" and "Watches and lateness". A call is quiet where all that it does is seen at a glance:
+-- nothing is late, nothing is half-built, and the packet is in sync, whole, and of a PID on which no sections are built. It gives no event; the
+-- packet's counter goes into the table, and its time becomes the latest. That this is what the call does is `proofs/Calls.antt`; a call that is
+-- not quiet is made as any other. p is the latest accepted time, t the call's time, q the packet's PID.
+--
+--   gapQuiet limit p t s  == a gap start s not above 2^62, whose stamp does not fall due at t
+--   tablesQuiet p t rs ss == those of fixed tables
+--   entryQuiet p t q e    == a listed entry as refusal 5 has it, its gap quiet, on another PID than q
+--   markOf e              == programme numbers are told apart by their remainder of 64: a call is not quiet where two have the same
+--   entriesQuiet p t q marks es == listed entries, none with a remainder that is marked or that of another
+--   noneHalf ns           == nothing is half-built
+--   syncQuiet c           == in sync, with no wrong byte before, at most sixteen programmes listed
+--   latestQuiet p t       == the latest time not above 2^62, the call's not below it
+--   stateQuiet s t q      == the state is quiet for a packet of the PID q
+--   sizesQuiet            == what refusals 1 to 4 ask
+--   headQuiet x           == a right sync byte, no error bit, not scrambled, control 01, a PID of 0x0020 to 0x1FFE
+--   byteQuiet b n         == the counter n on an unseen PID, or one more than the last
+--   countQuiet            == a packet of which only the counter is looked at, and follows
+--   packetQuiet           == the packet x is quiet
+--   quietCall, quietIn    == both are, in a state by value or in two arrays
+--   quietTimes, quietTable == the times and the counter table after the quiet part of a call, which leaves them where the call is not quiet
+--   firstOf quiet         == what is told of it: a quiet call is accepted, with no event
+use Prim.Native.Nat.{ℕ, _+_, _%_}
+use mathlib.Core.Bool.{Bool, true, false, cond, not, _&&_, _||_}
+use mathlib.Core.List.{List, [], _∷_}
+use lib.Dec.{leb, ltb, eqb}
+use lib.ListN.{length, getD, set, replicate}
+use Rattle.watches.specs.declared.Entry.{Entry}
+use Rattle.watches.specs.Tables.{Table, fixedTables, pmtTable}
+use Rattle.header.specs.Header.{packetSize, rightSync, errorBit, scrambledBits, controlOf, pidOf, counterOf}
+use Rattle.continuity.specs.Continuity.{knownByte, lastOf}
+use Rattle.programmes.specs.Listing.{lowestPid, mostListed}
+use Rattle.calls.specs.declared.Core.{Core}
+use Rattle.calls.specs.declared.State.{State}
+use Rattle.calls.specs.Cores.{listed}
+use Rattle.calls.specs.Sound.{greatestPid, timeSound}
+use Rattle.calls.specs.Calls.{tableSize, leastRoom}
+use Rattle.arrays.specs.Lent.{timeCount, wordCount, stateIn}
+use Rattle.quiet.specs.declared.First.{First}
+
+-- WATCHES
+abbrev pub gapQuiet : ℕ → ℕ → ℕ → ℕ → Bool
+gapQuiet limit p t s = timeSound s && not (leb p (s + limit) && ltb (s + limit) t)
+
+unfoldable pub tablesQuiet : ℕ → ℕ → List Table → List ℕ → Bool
+tablesQuiet p t [] ss = true
+tablesQuiet p t (r ∷ rs) [] = true
+tablesQuiet p t (r ∷ rs) (s ∷ ss) = cond (gapQuiet (r .limit) p t s) (tablesQuiet p t rs ss) false
+
+abbrev pub entryQuiet : ℕ → ℕ → ℕ → Entry → Bool
+entryQuiet p t q e =
+    not (eqb (e .number) 0)
+    && leb lowestPid (e .pid)
+    && leb (e .pid) greatestPid
+    && not (eqb (e .pid) q)
+    && gapQuiet (pmtTable .limit) p t (e .since)
+
+abbrev pub markOf : Entry → ℕ
+markOf e = e .number % 64
+
+unfoldable pub entriesQuiet : ℕ → ℕ → ℕ → List Bool → List Entry → Bool
+entriesQuiet p t q marks [] = true
+entriesQuiet p t q marks (e ∷ es) =
+    cond (entryQuiet p t q e) (cond (getD marks (markOf e) false) false (entriesQuiet p t q (set marks (markOf e) true) es)) false
+
+abbrev pub unmarked : List Bool
+unmarked = replicate 64 false
+
+-- HALF-BUILT SECTIONS
+unfoldable pub noneHalf : List ℕ → Bool
+noneHalf [] = true
+noneHalf (n ∷ ns) = eqb n 0 && noneHalf ns
+
+-- THE STATE
+abbrev pub syncQuiet : Core → Bool
+syncQuiet c = not (c .lost) && eqb (c .run) 0 && leb (c .count) mostListed
+
+abbrev pub latestQuiet : ℕ → ℕ → Bool
+latestQuiet p t = timeSound p && leb p t
+
+unfoldable pub stateQuiet : State → ℕ → ℕ → Bool
+stateQuiet s t q =
+    cond (syncQuiet (s .core))
+    (cond (latestQuiet (s .latest) t)
+    (cond (noneHalf (s .core .half))
+    (cond (tablesQuiet (s .latest) t fixedTables (s .core .since)) (entriesQuiet (s .latest) t q unmarked (listed (s .core)))
+    false)
+    false)
+    false)
+    false
+
+-- THE PACKET
+abbrev pub sizesQuiet : ℕ → List ℕ → List ℕ → ℕ → Bool
+sizesQuiet t x counters room = eqb (length x) packetSize && eqb (length counters) tableSize && leb leastRoom room && timeSound t
+
+abbrev pub headQuiet : List ℕ → Bool
+headQuiet x =
+    rightSync x && not (errorBit x) && not (scrambledBits x) && eqb (controlOf x) 1 && leb lowestPid (pidOf x) && leb (pidOf x) greatestPid
+
+abbrev pub byteQuiet : ℕ → ℕ → Bool
+byteQuiet b n = eqb b 0 || (knownByte b && eqb n ((lastOf b + 1) % 16))
+
+abbrev pub countQuiet : List ℕ → List ℕ → Bool
+countQuiet x counters = cond (headQuiet x) (byteQuiet (getD counters (pidOf x) 0) (counterOf x)) false
+
+abbrev pub packetQuiet : ℕ → List ℕ → List ℕ → ℕ → Bool
+packetQuiet t x counters room = cond (sizesQuiet t x counters room) (countQuiet x counters) false
+
+-- THE CALL
+abbrev pub quietCall : State → ℕ → List ℕ → List ℕ → ℕ → Bool
+quietCall s t x counters room = cond (packetQuiet t x counters room) (stateQuiet s t (pidOf x)) false
+
+abbrev pub quietIn : List ℕ → List ℕ → ℕ → List ℕ → List ℕ → ℕ → Bool
+quietIn times words t x counters room =
+    cond (eqb (length times) timeCount && eqb (length words) wordCount) (quietCall (stateIn times words) t x counters room) false
+
+-- WHAT IT LEAVES
+abbrev pub quietTimes : Bool → ℕ → List ℕ → List ℕ
+quietTimes quiet t times = cond quiet (set times 0 t) times
+
+abbrev pub quietTable : Bool → List ℕ → List ℕ → List ℕ
+quietTable quiet x counters = cond quiet (set counters (pidOf x) (16 + counterOf x)) counters
+
+abbrev pub firstOf : Bool → First
+firstOf quiet = record { done = quiet; answer = record { refusal = 0; n = 0 } }

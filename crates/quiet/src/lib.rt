@@ -1,0 +1,265 @@
+// The quiet part of a packet call on lent arrays: most packets of a stream are elementary data of which the
+// engine only counts, and then the call is two stores. What is not seen at a glance is left to the call
+// itself.
+use arrays::Reply;
+ghost use mathlib.Core.Path.{_≡_};
+ghost use Prim.Native.Nat.{_+_, _*_, _%_, _≤_, _<_};
+ghost use mathlib.Core.Bool.{_&&_};
+ghost use lib.Dec.{eqb, leb};
+ghost use lib.ListN.{length, getD, set, take};
+ghost use Rattle.lists.specs.Places.{part};
+ghost use Rattle.watches.specs.Tables.{fixedTables, latestTime};
+ghost use Rattle.header.specs.Header.{packetSize, pidOf, counterOf};
+ghost use Rattle.arrays.specs.Lent.{timeCount, wordCount, entryIn, tabled, stateIn};
+ghost use Rattle.calls.specs.Calls.{tableSize};
+ghost use Rattle.quiet.specs.Quiet.{gapQuiet, tablesQuiet, entryQuiet, entriesQuiet, unmarked, noneHalf, latestQuiet, stateQuiet, sizesQuiet, headQuiet, byteQuiet, countQuiet, packetQuiet, quietCall, quietIn, quietTimes, quietTable, firstOf};
+
+const LATEST_TIME: u64 = 4_611_686_018_427_387_904;
+
+const LOWEST_PID: u16 = 0x0020;
+
+const GREATEST_PID: u16 = 0x1FFE;
+
+const PMT_LIMIT: u64 = 13_500_000;
+
+// Whether the call was quiet, and then its answer.
+pub struct First {
+    pub done: bool,
+    pub answer: Reply,
+}
+
+// Whether a gap start is not above 2^62 and its stamp does not fall due as time goes from p to t.
+fn gap_quiet(since: u64, limit: u64, p: u64, t: u64) -> bool
+    requires { ⌜ limit ≤ latestTime ⌝ }
+    ensures { λ r. ⌜ r ≡ gapQuiet limit p t since ⌝ }
+{
+    if LATEST_TIME < since {
+        return false;
+    }
+    let stamp = since + limit;
+    if p <= stamp {
+        return !(stamp < t);
+    }
+    true
+}
+
+// Whether those of the five fixed tables are quiet, down the table.
+fn tables_quiet(times: &[u64], t: u64) -> bool
+    requires { ⌜ length (now times) ≡ timeCount ⌝ }
+    ensures { λ r. ⌜ r ≡ tablesQuiet (getD (now (times .entry)) 0 0) t fixedTables (part (now (times .entry)) 1 5) ⌝ }
+{
+    let p = times[0];
+    if !gap_quiet(times[1], 13_500_000, p, t) {
+        return false;
+    }
+    if !gap_quiet(times[2], 270_000_000, p, t) {
+        return false;
+    }
+    if !gap_quiet(times[3], 54_000_000, p, t) {
+        return false;
+    }
+    if !gap_quiet(times[4], 54_000_000, p, t) {
+        return false;
+    }
+    gap_quiet(times[5], 810_000_000, p, t)
+}
+
+// Whether nothing is half-built. All lengths are looked at: a loop without a way out is done many at a time.
+fn none_half(words: &[u16]) -> bool
+    requires { ⌜ length (now words) ≡ wordCount ⌝ }
+    ensures { λ r. ⌜ r ≡ noneHalf (part (now (words .entry)) 32 21) ⌝ }
+{
+    let mut none = true;
+    let mut k: usize = 0;
+    while k < 21 {
+        none = none & (words[32 + k] == 0);
+        k += 1;
+    }
+    none
+}
+
+// Whether a listed entry is one that refusal 5 passes, quiet, and on another PID than q.
+fn entry_quiet(number: u16, pid: u16, since: u64, p: u64, t: u64, q: u16) -> bool
+    ensures { λ r. ⌜ r ≡ entryQuiet p t q (record { number = number; pid = pid; since = since }) ⌝ }
+{
+    !(number == 0)
+        & (LOWEST_PID <= pid)
+        & (pid <= GREATEST_PID)
+        & !(pid == q)
+        & gap_quiet(since, PMT_LIMIT, p, t)
+}
+
+// Whether the listed entries are, with no two numbers of the same remainder.
+fn entries_quiet(times: &[u64], words: &[u16], count: usize, t: u64, q: u16) -> bool
+    requires { ⌜ (length (now times) ≡ timeCount) × (length (now words) ≡ wordCount) × (count ≤ 16) ⌝ }
+    ensures { λ r. ⌜ r ≡ entriesQuiet (getD (now (times .entry)) 0 0) t q unmarked (take count (tabled (entryIn (now (times .entry)) (now (words .entry))) 0 16)) ⌝ }
+{
+    let p = times[0];
+    let mut marks = [false; 64];
+    let mut k: usize = 0;
+    while k < count {
+        let number = words[k];
+        if !entry_quiet(number, words[16 + k], times[6 + k], p, t, q) {
+            return false;
+        }
+        let mark = (number % 64) as usize;
+        if marks[mark] {
+            return false;
+        }
+        marks[mark] = true;
+        k += 1;
+    }
+    true
+}
+
+// Whether the state is in sync, with no wrong byte before, and its list within bounds.
+fn sync_quiet(lost: u16, run: u16, count: u16) -> bool
+    ensures { λ r. ⌜ r ≡ (eqb lost 0 && eqb run 0 && leb count 16) ⌝ }
+{
+    (lost == 0) & (run == 0) & (count <= 16)
+}
+
+// Whether the latest time is not above 2^62, and the call's not below it.
+fn latest_quiet(p: u64, t: u64) -> bool
+    ensures { λ r. ⌜ r ≡ latestQuiet p t ⌝ }
+{
+    (p <= LATEST_TIME) & (p <= t)
+}
+
+// Whether the state is quiet for a packet of the PID q.
+fn state_quiet(times: &[u64], words: &[u16], t: u64, q: u16) -> bool
+    requires { ⌜ (length (now times) ≡ timeCount) × (length (now words) ≡ wordCount) ⌝ }
+    ensures { λ r. ⌜ r ≡ stateQuiet (stateIn (now (times .entry)) (now (words .entry))) t q ⌝ }
+{
+    let count = words[55];
+    if !sync_quiet(words[53], words[54], count) {
+        return false;
+    }
+    if !latest_quiet(times[0], t) {
+        return false;
+    }
+    if !none_half(words) {
+        return false;
+    }
+    if !tables_quiet(times, t) {
+        return false;
+    }
+    entries_quiet(times, words, count as usize, t, q)
+}
+
+// The 13 PID bits in two bytes.
+fn pid_bits(high: u8, low: u8) -> u16
+    ensures { λ r. ⌜ (r ≡ high % 32 * 256 + low) × (r < 8192) ⌝ }
+{
+    (high % 32) as u16 * 256 + low as u16
+}
+
+// Whether the packet is in sync, whole and in the clear, with a payload, on a PID of elementary streams.
+fn head_quiet(packet: &[u8], pid: u16) -> bool
+    requires { ⌜ (length (now packet) ≡ packetSize) × (pid ≡ pidOf (now packet)) ⌝ }
+    ensures { λ r. ⌜ r ≡ headQuiet (now (packet .entry)) ⌝ }
+{
+    (packet[0] == 0x47)
+        & !(128 <= packet[1])
+        & !(64 <= packet[3])
+        & (packet[3] / 16 % 4 == 1)
+        & (LOWEST_PID <= pid)
+        & (pid <= GREATEST_PID)
+}
+
+// Whether the counter is the first of its PID, or follows the last.
+fn byte_quiet(byte: u8, counter: u8) -> bool
+    ensures { λ r. ⌜ r ≡ byteQuiet byte counter ⌝ }
+{
+    (byte == 0) | (continuity::known_byte(byte) & (counter == (byte % 16 + 1) % 16))
+}
+
+// Whether packet, table, list and time are as refusals 1 to 4 ask.
+fn sizes_quiet(t: u64, packet: &[u8], counters: &[u8], room: usize) -> bool
+    ensures { λ r. ⌜ r ≡ sizesQuiet t (now (packet .entry)) (now (counters .entry)) room ⌝ }
+{
+    (packet.len() == 188) & (counters.len() == 8192) & (96 <= room) & (t <= LATEST_TIME)
+}
+
+// Whether the packet is one of which only the counter is looked at, and follows.
+fn count_quiet(packet: &[u8], counters: &[u8]) -> bool
+    requires { ⌜ (length (now packet) ≡ packetSize) × (length (now counters) ≡ tableSize) ⌝ }
+    ensures { λ r. ⌜ r ≡ countQuiet (now (packet .entry)) (now (counters .entry)) ⌝ }
+{
+    let pid = pid_bits(packet[1], packet[2]);
+    if !head_quiet(packet, pid) {
+        return false;
+    }
+    byte_quiet(counters[pid as usize], packet[3] % 16)
+}
+
+// Whether the packet is quiet.
+fn packet_quiet(t: u64, packet: &[u8], counters: &[u8], room: usize) -> bool
+    ensures { λ r. ⌜ r ≡ packetQuiet t (now (packet .entry)) (now (counters .entry)) room ⌝ }
+{
+    if !sizes_quiet(t, packet, counters, room) {
+        return false;
+    }
+    count_quiet(packet, counters)
+}
+
+// Whether the call is quiet.
+fn call_quiet(
+    times: &[u64],
+    words: &[u16],
+    t: u64,
+    packet: &[u8],
+    counters: &[u8],
+    room: usize,
+) -> bool
+    requires { ⌜ (length (now times) ≡ timeCount) × (length (now words) ≡ wordCount) ⌝ }
+    ensures { λ r. ⌜ r ≡ quietCall (stateIn (now (times .entry)) (now (words .entry))) t (now (packet .entry)) (now (counters .entry)) room ⌝ }
+{
+    if !packet_quiet(t, packet, counters, room) {
+        return false;
+    }
+    let pid = pid_bits(packet[1], packet[2]);
+    state_quiet(times, words, t, pid)
+}
+
+// The counter table after a quiet call: the packet's counter is the last of its PID.
+fn count_packet(packet: &[u8], counters: &mut [u8])
+    requires { ⌜ (length (now packet) ≡ packetSize) × (length (now counters) ≡ tableSize) ⌝ }
+    ensures { λ _. ⌜ now (counters .exit) ≡ set (now (counters .entry)) (pidOf (now (packet .entry))) (16 + counterOf (now (packet .entry))) ⌝ }
+{
+    let pid = pid_bits(packet[1], packet[2]);
+    counters[pid as usize] = 16 + packet[3] % 16;
+}
+
+// The quiet part of a packet call: where the call is quiet it is done here, and otherwise nothing is.
+pub fn quiet_packet(
+    times: &mut [u64; 22],
+    words: &mut [u16; 56],
+    time: u64,
+    packet: &[u8],
+    counters: &mut [u8],
+    memory: &mut [u8; 24576],
+    room: usize,
+) -> First
+    ensures { λ r. ⌜ (r ≡ firstOf (quietIn (now (times .entry)) (now (words .entry)) time (now (packet .entry)) (now (counters .entry)) room))
+        × (now (times .exit) ≡ quietTimes (quietIn (now (times .entry)) (now (words .entry)) time (now (packet .entry)) (now (counters .entry)) room) time (now (times .entry)))
+        × (now (words .exit) ≡ now (words .entry))
+        × (now (counters .exit) ≡ quietTable (quietIn (now (times .entry)) (now (words .entry)) time (now (packet .entry)) (now (counters .entry)) room) (now (packet .entry)) (now (counters .entry)))
+        × (now (memory .exit) ≡ now (memory .entry)) ⌝ }
+{
+    let a = arrays::time_count(times);
+    let b = arrays::word_count(words);
+    let no = First {
+        done: false,
+        answer: Reply { refusal: 0, n: 0 },
+    };
+    if !call_quiet(times, words, time, packet, counters, room) {
+        return no;
+    }
+    count_packet(packet, counters);
+    times[0] = time;
+    First {
+        done: true,
+        answer: Reply { refusal: 0, n: 0 },
+    }
+}
