@@ -65,21 +65,27 @@ fn number_among(number: u16, entries: [Entry; 16], count: usize, start: usize) -
     false
 }
 
-// Whether each listed entry is sound and its number not listed again.
+// Whether each listed entry is sound and its number not listed again. Numbers are told apart by their remainder
+// of 64: only where two have the same is the list searched.
 fn entries_sound(entries: [Entry; 16], count: usize) -> bool
     requires { ⌜ count ≤ 16 ⌝ }
     ensures { λ r. ⌜ r ≡ entriesSound (take count entries) ⌝ }
 {
-    let mut i: usize = 0;
-    while i < count {
+    let mut marks = [false; 64];
+    let mut i = count;
+    while 0 < i {
+        i -= 1;
         let e = entries[i];
         if !entry_sound(e) {
             return false;
         }
-        if number_among(e.number, entries, count, i + 1) {
-            return false;
+        let mark = (e.number % 64) as usize;
+        if marks[mark] {
+            if number_among(e.number, entries, count, i + 1) {
+                return false;
+            }
         }
-        i += 1;
+        marks[mark] = true;
     }
     true
 }
@@ -111,7 +117,7 @@ fn room_sound(memory: &[u8], room: usize, half: u16) -> bool
 }
 
 // Whether those of every room are.
-fn rooms_sound(half: [u16; 21], memory: &[u8]) -> bool
+pub fn rooms_sound(half: [u16; 21], memory: &[u8]) -> bool
     requires { ⌜ length (now memory) ≡ memorySize ⌝ }
     ensures { λ r. ⌜ r ≡ roomsSound half (now (memory .entry)) ⌝ }
 {
