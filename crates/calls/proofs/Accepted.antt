@@ -257,7 +257,7 @@ entries-whole (x ∷ es) h =
     alone k l q = h .apart 0 (suc k) (omega arith) (omega arith) (sym q)
 
 -- rooms
-rooms-at : (ns m : List ℕ) (a left : ℕ) → roomsFrom ns m a left ≡ true → (r : ℕ) → a ≤ r → r < a + left → roomSound ns m r ≡ true
+pub rooms-at : (ns m : List ℕ) (a left : ℕ) → roomsFrom ns m a left ≡ true → (r : ℕ) → a ≤ r → r < a + left → roomSound ns m r ≡ true
 unfolding roomsFrom
 rooms-at ns m a zero e r h g = absurd (omega arith)
 rooms-at ns m a (suc left) e r h g = go (rooms-at ns m (a + 1) left (and-right (roomSound ns m a) (roomsFrom ns m (a + 1) left) e) r) (order a r)
@@ -268,7 +268,7 @@ rooms-at ns m a (suc left) e r h g = go (rooms-at ns m (a + 1) left (and-right (
         let same : r ≡ a = omega arith in
         ap (roomSound ns m) same ∙ and-left (roomSound ns m a) (roomsFrom ns m (a + 1) left) e
 
-rooms-whole : (ns m : List ℕ) (a left : ℕ) → ((r : ℕ) → a ≤ r → r < a + left → roomSound ns m r ≡ true) → roomsFrom ns m a left ≡ true
+pub rooms-whole : (ns m : List ℕ) (a left : ℕ) → ((r : ℕ) → a ≤ r → r < a + left → roomSound ns m r ≡ true) → roomsFrom ns m a left ≡ true
 unfolding roomsFrom
 rooms-whole ns m a zero h = refl
 rooms-whole ns m a (suc left) h =

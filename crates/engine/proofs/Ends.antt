@@ -14,6 +14,7 @@ use Rattle.events.specs.declared.Event.{Event}
 use Rattle.events.specs.Events.{numbersOf, eventsLaid}
 use Rattle.watches.specs.Tables.{latestTime}
 use Rattle.header.specs.Header.{pidOf}
+use Rattle.sections.specs.Rooms.{roomCount}
 use Rattle.programmes.specs.Listing.{mostListed}
 use Rattle.calls.specs.declared.Core.{Core}
 use Rattle.calls.specs.declared.State.{State}
@@ -24,6 +25,8 @@ use Rattle.calls.specs.Steps.{step1}
 use Rattle.calls.specs.Calls.{openRefusal, packetRefusal, clockRefusal, openAnswer, openTable, packetCall, clockCall, answerOf, heldOf}
 use Rattle.calls.proofs.Accepted.{Sound, open-accepted, packet-call-accepted, packet-call-refused, clock-call-accepted, clock-call-refused}
 use Rattle.steps.specs.Judging.{Done}
+use Rattle.quiet.specs.Quiet.{quietCall, countedTable}
+use Rattle.quiet.proofs.Calls.{quiet-call}
 use Rattle.engine.specs.Numbers.{AllFit, Numbered}
 use Rattle.engine.proofs.Fits.{all-fit-append, step1-fits}
 
@@ -82,6 +85,12 @@ module _ (s : State) (t : ℕ) (p counters m : List ℕ) (room : ℕ) (before : 
       → PacketEnd s t p counters m room (refused number s) counters m before before
   packet-refused number e wrong =
       rw (packet-call-refused s t p counters m room (λ z. wrong (e ∙ z))) (ap (λ n. refused n s) e, refl, refl, numbered-none before)
+
+  -- a quiet one: nothing but the counter table and the latest time changes
+  pub packet-quiet : (table : List ℕ) → quietCall s m t p counters room ≡ true → table ≡ countedTable p counters
+      → length (s .core .since) ≤ 5 → length (s .core .half) ≤ roomCount
+      → PacketEnd s t p counters m room (accepted t 0 (s .core)) table m before before
+  packet-quiet table e counted l g = rw (quiet-call s m t p counters room e l g) (refl, counted, refl, numbered-none before)
 
   abbrev late : List Event
   late = lateOf (s .latest) t (s .core)

@@ -106,9 +106,9 @@ pub fn open_at(time: u64, counters: &mut [u8]) -> Answer
     }
 }
 
-// A packet call, for an event list of `room` records: the late events, then those of the packet. A refusal
-// hands back what it was given.
-pub fn packet_at(
+// A packet call made in all its steps: the late events, then those of the packet. A refusal hands back what it
+// was given.
+pub fn whole_packet_at(
     state: State,
     time: u64,
     packet: &[u8],
@@ -144,6 +144,35 @@ pub fn packet_at(
             core: after,
         },
     }
+}
+
+// A packet call, for an event list of `room` records. Most are quiet, and done where that is seen.
+pub fn packet_at(
+    state: State,
+    time: u64,
+    packet: &[u8],
+    counters: &mut [u8],
+    memory: &mut [u8; 24576],
+    room: usize,
+    numbers: &mut [u64; 384],
+) -> Answer
+    ensures { λ r. ⌜ (r ≡ answerOf (packetCall state time (now (packet .entry)) (now (counters .entry)) (now (memory .entry)) room))
+        × (now (counters .exit) ≡ packetCall state time (now (packet .entry)) (now (counters .entry)) (now (memory .entry)) room .counters)
+        × (now (memory .exit) ≡ packetCall state time (now (packet .entry)) (now (counters .entry)) (now (memory .entry)) room .memory)
+        × Numbered (now (numbers .entry)) (now (numbers .exit)) (packetCall state time (now (packet .entry)) (now (counters .entry)) (now (memory .entry)) room .events) ⌝ }
+{
+    if quiet::quiet_value(state, time, packet, counters, memory, room) {
+        let same = state.core;
+        return Answer {
+            refusal: 0,
+            n: 0,
+            state: State {
+                latest: time,
+                core: same,
+            },
+        };
+    }
+    whole_packet_at(state, time, packet, counters, memory, room, numbers)
 }
 
 // A clock call, for an event list of `room` records: the late events alone.

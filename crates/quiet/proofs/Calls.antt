@@ -1,52 +1,51 @@
--- A quiet call is what it is said to be: accepted, without an event; the packet's counter goes into the table, its time becomes the latest, and
+-- A quiet call is what it is said to be: accepted, without an event; step 4 leaves its byte in the table, the packet's time becomes the latest, and
 -- nothing else changes. Assumes nothing.
 use mathlib.Core.Path.{_≡_, refl, sym, ap, ap₂, _∙_}
 use mathlib.Core.Bool.{Bool, true, false, cond, not, _&&_, _||_}
 use mathlib.Core.List.{List, [], _∷_}
-use Prim.Native.Nat.{ℕ, _+_, _%_, _≤_, _<_}
+use Prim.Native.Nat.{ℕ, _≤_, _<_}
 use native.Mathlib.Omega.{arith}
 use lib.Dec.{leb, ltb, eqb}
 use lib.ListN.{length, getD, set}
+use lib.Seq.{set-out}
 use borrow.Author.Tests.{leb-true, eqb-true, ne-eqb, le-ltb, not-true}
-use Rattle.lists.specs.Places.{part}
 use Rattle.lists.proofs.Tests.{and-left, and-right}
 use Rattle.events.specs.Faults.{continuityError}
 use Rattle.watches.specs.Tables.{fixedTables, latestTime}
-use Rattle.header.specs.Header.{packetSize, rightSync, errorBit, scrambledBits, controlOf, pidOf, counterOf, headerOf}
+use Rattle.header.specs.Header.{packetSize, rightSync, errorBit, scrambledBits, pidOf}
 use Rattle.continuity.specs.declared.Counted.{Counted}
-use Rattle.continuity.specs.Continuity.{knownByte, lastOf, begun, followed, countedOf}
-use Rattle.sections.specs.Rooms.{roomCount, noRoom, greatestLength}
-use Rattle.sections.specs.Section.{isMore}
-use Rattle.sections.proofs.Stages.{stage-few}
-use Rattle.programmes.specs.Listing.{lowestPid, mostListed, nullPid}
+use Rattle.continuity.specs.Continuity.{knownByte}
+use Rattle.sections.specs.Rooms.{roomCount, noRoom}
+use Rattle.programmes.specs.Listing.{lowestPid, mostListed}
+use Rattle.programmes.specs.Places.{isListed}
 use Rattle.calls.specs.declared.State.{State}
-use Rattle.calls.specs.Cores.{Held, listed, fixedRoom, roomFor, droppedRoom, lateOf}
+use Rattle.calls.specs.Cores.{Held, listed, fixedRoom, roomFor, withHalf, droppedRoom, lateOf}
 use Rattle.calls.specs.Sync.{Synced, withSync, whileLost, inSync, syncedOf}
 use Rattle.calls.specs.Steps.{Step, also, packetEvents, counted, step1, step2, step4, step5}
-use Rattle.calls.specs.Sound.{greatestPid, timeSound, roomSound, stateSound}
+use Rattle.calls.specs.Sound.{timeSound, roomsSound, stateSound}
 use Rattle.calls.specs.Calls.{tableSize, leastRoom, heldOf, packetCall}
-use Rattle.calls.proofs.Accepted.{PacketAccepted, accepted-packet, packet-call-accepted, sound-whole}
-use Rattle.quiet.specs.Quiet.{tablesQuiet, entriesQuiet, unmarked, noneHalf, syncQuiet, latestQuiet, stateQuiet, sizesQuiet, headQuiet, byteQuiet, countQuiet, packetQuiet, quietCall}
+use Rattle.calls.proofs.Accepted.{PacketAccepted, accepted-packet, packet-call-accepted, rooms-at, sound-whole}
+use Rattle.quiet.specs.Quiet.{tablesQuiet, entriesQuiet, unmarked, syncQuiet, latestQuiet, stateQuiet, sizesQuiet, headQuiet, idlePacket, byteQuiet, countQuiet, packetQuiet, quietCall, countedTable}
 use Rattle.quiet.proofs.Turns.{passed, packet-lengths}
-use Rattle.quiet.proofs.Parts.{tables-sound, tables-timely, none-at, none-dropped, entries-timely, entries-other, entries-sound}
+use Rattle.quiet.proofs.Parts.{tables-sound, tables-timely, entries-timely, entries-other, entries-sound}
 
 -- A QUIET STATE, part by part
-pub record QuietState (s : State) (t q : ℕ) : Type 0 where
+pub record QuietState (s : State) (m : List ℕ) (t q : ℕ) : Type 0 where
   pub insync : s .core .lost ≡ false
   pub run : s .core .run ≡ 0
   pub count : s .core .count ≤ mostListed
   pub latest : timeSound (s .latest) ≡ true
   pub order : s .latest ≤ t
-  pub half : noneHalf (s .core .half) ≡ true
+  pub rooms : roomsSound (s .core .half) m ≡ true
   pub tables : tablesQuiet (s .latest) t fixedTables (s .core .since) ≡ true
   pub entries : entriesQuiet (s .latest) t q unmarked (listed (s .core)) ≡ true
 
-pub state-parts : (s : State) (t q : ℕ) → stateQuiet s t q ≡ true → QuietState s t q
+pub state-parts : (s : State) (m : List ℕ) (t q : ℕ) → stateQuiet s m t q ≡ true → QuietState s m t q
 unfolding stateQuiet
-state-parts s t q e =
+state-parts s m t q e =
     let d = entriesQuiet (s .latest) t q unmarked (listed (s .core)) in
     let c = tablesQuiet (s .latest) t fixedTables (s .core .since) in
-    let b = noneHalf (s .core .half) in
+    let b = roomsSound (s .core .half) m in
     let a = latestQuiet (s .latest) t in
     let one = passed (syncQuiet (s .core)) (cond a (cond b (cond c d false) false) false) e in
     let two = passed a (cond b (cond c d false) false) (one .1) in
@@ -61,16 +60,15 @@ state-parts s t q e =
       count = leb-true (s .core .count) mostListed (and-right (lost && run) (leb (s .core .count) mostListed) (one .0));
       latest = and-left (timeSound (s .latest)) (leb (s .latest) t) (two .0);
       order = leb-true (s .latest) t (and-right (timeSound (s .latest)) (leb (s .latest) t) (two .0));
-      half = three .0;
+      rooms = three .0;
       tables = four .0;
       entries = four .1;
     }
 
-module _ (s : State) (t q : ℕ) (h : QuietState s t q) where
+module _ (s : State) (m : List ℕ) (t q : ℕ) (h : QuietState s m t q) where
   -- it is sound
-  pub quiet-sound : (m : List ℕ) → length (s .core .since) ≤ 5 → stateSound s m ≡ true
-  unfolding part
-  quiet-sound m l =
+  pub quiet-sound : length (s .core .since) ≤ 5 → stateSound s m ≡ true
+  quiet-sound l =
       sound-whole s m
       (record {
         latest = leb-true (s .latest) _ (h .latest);
@@ -78,18 +76,18 @@ module _ (s : State) (t q : ℕ) (h : QuietState s t q) where
         count = h .count;
         entries = entries-sound (s .latest) t q unmarked (listed (s .core)) refl (h .entries);
         run = omega (arith, h .run);
-        rooms = room;
+        rooms = λ r b. rooms-at (s .core .half) m 0 roomCount (h .rooms) r (omega arith) b;
       })
-    where
-      room : (r : ℕ) → r < roomCount → roomSound (s .core .half) m r ≡ true
-      room r b = rw (none-at (s .core .half) (h .half) r) (ap isMore (stage-few (greatestLength r) [] (omega arith)))
 
   -- nothing is late
-  quiet-timely : lateOf (s .latest) t (s .core) ≡ []
+  pub quiet-timely : lateOf (s .latest) t (s .core) ≡ []
   unfolding lateOf
   quiet-timely = rw (tables-timely (s .latest) t fixedTables (s .core .since) (h .tables), entries-timely (s .latest) t q unmarked (listed (s .core)) (h .entries))
 
   -- no sections of the PID are built
+  quiet-unlisted : isListed q (listed (s .core)) ≡ false
+  quiet-unlisted = rw (entries-other (s .latest) t q unmarked (listed (s .core)) (h .entries), le-ltb (length (listed (s .core))) (length (listed (s .core))) (omega arith))
+
   quiet-room : lowestPid ≤ q → roomFor (s .core) q ≡ noRoom
   unfolding roomFor fixedRoom
   quiet-room l =
@@ -99,20 +97,20 @@ module _ (s : State) (t q : ℕ) (h : QuietState s t q) where
         ne-eqb 0x0011 q (λ z. omega arith),
         ne-eqb 0x0012 q (λ z. omega arith),
         ne-eqb 0x0014 q (λ z. omega arith),
-        entries-other (s .latest) t q unmarked (listed (s .core)) (h .entries),
-        le-ltb (length (listed (s .core))) (length (listed (s .core))) (omega arith),
+        quiet-unlisted,
       )
 
-  -- step 1 leaves the core, and so does dropping a section
-  quiet-synced : (right : Bool) → right ≡ true → syncedOf right (s .core) ≡ record { core = s .core; faults = []; further = true }
+  -- step 1 leaves the core
+  pub quiet-synced : (right : Bool) → right ≡ true → syncedOf right (s .core) ≡ record { core = s .core; faults = []; further = true }
   quiet-synced right e =
       let c = s .core in
       ap (λ (b : Bool). cond b (whileLost right c) (inSync right c)) (h .insync)
       ∙ ap (λ (b : Bool). inSync b c) e
       ∙ ap₂ (λ (b : Bool) (n : ℕ). record { core = withSync b n c; faults = []; further = true }) (sym (h .insync)) (sym (h .run))
 
-  quiet-dropped : (m : List ℕ) (r : ℕ) → droppedRoom r (heldOf s m) ≡ heldOf s m
-  quiet-dropped m r = rw (none-dropped (s .core .half) (h .half) r)
+-- what is dropped past the last room
+dropped-nowhere : (s : State) (m : List ℕ) → length (s .core .half) ≤ roomCount → droppedRoom noRoom (heldOf s m) ≡ heldOf s m
+dropped-nowhere s m l = ap (λ (ns : List ℕ). record { core = withHalf ns (s .core); memory = m }) (set-out (s .core .half) noRoom 0 l)
 
 -- A QUIET PACKET, part by part
 pub record QuietPacket (t : ℕ) (x counters : List ℕ) (room : ℕ) : Type 0 where
@@ -122,119 +120,104 @@ pub record QuietPacket (t : ℕ) (x counters : List ℕ) (room : ℕ) : Type 0 w
   pub time : timeSound t ≡ true
   pub sync : rightSync x ≡ true
   pub error : errorBit x ≡ false
-  pub scrambled : scrambledBits x ≡ false
-  pub control : controlOf x ≡ 1
   pub low : lowestPid ≤ pidOf x
-  pub high : pidOf x ≤ greatestPid
-  pub byte : byteQuiet (getD counters (pidOf x) 0) (counterOf x) ≡ true
+  pub byte : knownByte (getD counters (pidOf x) 0) ≡ true
+  pub silent : (idlePacket x || not (counted x counters .event)) ≡ true
+
+-- what refusals 1 to 4 ask
+pub sizes-rest : (t : ℕ) (x counters : List ℕ) (room : ℕ) → sizesQuiet t x counters room ≡ true → (leastRoom ≤ room) × (timeSound t ≡ true)
+sizes-rest t x counters room e =
+    let sizes = eqb (length x) packetSize && eqb (length counters) tableSize in
+    (leb-true leastRoom room (and-right sizes (leb leastRoom room) (and-left (sizes && leb leastRoom room) (timeSound t) e)), and-right (sizes && leb leastRoom room) (timeSound t) e)
 
 pub packet-parts : (t : ℕ) (x counters : List ℕ) (room : ℕ) → packetQuiet t x counters room ≡ true → QuietPacket t x counters room
 packet-parts t x counters room e =
     let one = passed (sizesQuiet t x counters room) (countQuiet x counters) e in
-    let two = passed (headQuiet x) (byteQuiet (getD counters (pidOf x) 0) (counterOf x)) (one .1) in
-    let sizes = eqb (length x) packetSize && eqb (length counters) tableSize in
+    let two = passed (headQuiet x) (byteQuiet x counters) (one .1) in
+    let three = passed (knownByte (getD counters (pidOf x) 0)) (idlePacket x || not (counted x counters .event)) (two .1) in
     let a = rightSync x in
     let b = not (errorBit x) in
-    let c = not (scrambledBits x) in
-    let d = eqb (controlOf x) 1 in
-    let f = leb lowestPid (pidOf x) in
-    let abcdf = and-left (a && b && c && d && f) (leb (pidOf x) greatestPid) (two .0) in
-    let abcd = and-left (a && b && c && d) f abcdf in
-    let abc = and-left (a && b && c) d abcd in
-    let ab = and-left (a && b) c abc in
+    let ab = and-left (a && b) (leb lowestPid (pidOf x)) (two .0) in
     record {
       packet = packet-lengths t x counters room e .0;
       table = packet-lengths t x counters room e .1;
-      records = leb-true leastRoom room (and-right sizes (leb leastRoom room) (and-left (sizes && leb leastRoom room) (timeSound t) (one .0)));
-      time = and-right (sizes && leb leastRoom room) (timeSound t) (one .0);
+      records = sizes-rest t x counters room (one .0) .0;
+      time = sizes-rest t x counters room (one .0) .1;
       sync = and-left a b ab;
       error = not-true (errorBit x) (and-right a b ab);
-      scrambled = not-true (scrambledBits x) (and-right (a && b) c abc);
-      control = eqb-true (controlOf x) 1 (and-right (a && b && c) d abcd);
-      low = leb-true lowestPid (pidOf x) (and-right (a && b && c && d) f abcdf);
-      high = leb-true (pidOf x) greatestPid (and-right (a && b && c && d && f) (leb (pidOf x) greatestPid) (two .0));
-      byte = two .1;
+      low = leb-true lowestPid (pidOf x) (and-right (a && b) (leb lowestPid (pidOf x)) (two .0));
+      byte = three .0;
+      silent = three .1;
     }
 
-module _ (b n : ℕ) where
-  -- a quiet byte is one that these calls leave
-  byte-known : byteQuiet b n ≡ true → knownByte b ≡ true
-  byte-known = go (eqb b 0) refl
-    where
-      go : (z : Bool) → eqb b 0 ≡ z → (z || (knownByte b && eqb n ((lastOf b + 1) % 16))) ≡ true → knownByte b ≡ true
-      go true q e = rw q
-      go false q e = and-left (knownByte b) (eqb n ((lastOf b + 1) % 16)) e
-
--- STEP 4: the counter is the first of its PID, or follows
-module _ (x counters : List ℕ) (control : controlOf x ≡ 1) where
-  counted-first : eqb (getD counters (pidOf x) 0) 0 ≡ true → counted x counters ≡ begun (counterOf x)
-  unfolding countedOf headerOf
-  counted-first e = rw (control, e)
-
-  counted-next : eqb (getD counters (pidOf x) 0) 0 ≡ false → eqb (counterOf x) ((lastOf (getD counters (pidOf x) 0) + 1) % 16) ≡ true
-      → counted x counters ≡ followed (counterOf x)
-  unfolding countedOf headerOf
-  counted-next e f = rw (control, e, f)
-
-module _ (s : State) (t : ℕ) (x counters m : List ℕ) (room : ℕ) (e : quietCall s t x counters room ≡ true) where
-  pub call-lengths : (length x ≡ packetSize) × (length counters ≡ tableSize)
-  call-lengths = packet-lengths t x counters room (passed (packetQuiet t x counters room) (stateQuiet s t (pidOf x)) e .0)
-
-  quietPacket : QuietPacket t x counters room
-  quietPacket = packet-parts t x counters room (passed (packetQuiet t x counters room) (stateQuiet s t (pidOf x)) e .0)
-
-  quietState : QuietState s t (pidOf x)
-  quietState = state-parts s t (pidOf x) (passed (packetQuiet t x counters room) (stateQuiet s t (pidOf x)) e .1)
-
-  abbrev quietStep : Step
-  quietStep = record { held = heldOf s m; counters = set counters (pidOf x) (16 + counterOf x); events = [] }
-
-  -- 5: no sections of the PID are built
-  elsewhere : ltb (roomFor (s .core) (pidOf x)) roomCount ≡ false
-  elsewhere = rw (quiet-room s t (pidOf x) quietState (quietPacket .low))
-
-  quiet-step-5 : step5 t x true (set counters (pidOf x) (16 + counterOf x)) (heldOf s m) ≡ quietStep
-  quiet-step-5 = rw (quietPacket .scrambled, elsewhere)
-
-  -- 4: by the judgement of the counter
-  abbrev judgedBy : Counted → Step
-  judgedBy j =
-      also (packetEvents t x (cond (j .event) (continuityError ∷ []) []))
-      (step5 t x (j .take) (set counters (pidOf x) (j .byte)) (cond (j .keep) (heldOf s m) (droppedRoom (roomFor (s .core) (pidOf x)) (heldOf s m))))
-
-  quiet-step-4 : step4 t x counters (heldOf s m) ≡ quietStep
-  quiet-step-4 = go (eqb (getD counters (pidOf x) 0) 0) refl (quietPacket .byte)
-    where
-      go : (z : Bool) → eqb (getD counters (pidOf x) 0) 0 ≡ z
-          → (z || (knownByte (getD counters (pidOf x) 0) && eqb (counterOf x) ((lastOf (getD counters (pidOf x) 0) + 1) % 16))) ≡ true
-          → step4 t x counters (heldOf s m) ≡ quietStep
-      go true q w =
-          ap judgedBy (counted-first x counters (quietPacket .control) q)
-          ∙ ap (step5 t x true (set counters (pidOf x) (16 + counterOf x))) (quiet-dropped s t (pidOf x) quietState m (roomFor (s .core) (pidOf x)))
-          ∙ quiet-step-5
-      go false q w =
-          ap judgedBy
-          (counted-next x counters (quietPacket .control) q
-          (and-right (knownByte (getD counters (pidOf x) 0)) (eqb (counterOf x) ((lastOf (getD counters (pidOf x) 0) + 1) % 16)) w))
-          ∙ quiet-step-5
-
-  -- 3 and 2
-  judged : (eqb (pidOf x) nullPid || eqb (controlOf x) 0) ≡ false
-  judged =
-      rw (ne-eqb (pidOf x) nullPid (λ z. omega (arith, quietPacket .high)), ne-eqb (controlOf x) 0 (λ z. omega (arith, quietPacket .control)))
-
-  quiet-step-2 : step2 t x counters (heldOf s m) ≡ quietStep
-  quiet-step-2 = rw (quietPacket .error, judged) quiet-step-4
-
-  -- 1: by the judgement of sync
+-- where sync and lateness leave nothing to say, the call is steps 2 to 5
+module _ (s : State) (m : List ℕ) (t q : ℕ) (h : QuietState s m t q) (x counters : List ℕ) (room : ℕ) (right : rightSync x ≡ true) where
   abbrev syncedBy : Synced → Step
   syncedBy y =
       let g : Held = record { core = y .core; memory = m } in
       also (packetEvents t x (y .faults)) (cond (y .further) (step2 t x counters g) (record { held = g; counters = counters; events = [] }))
 
-  quiet-step : step1 t x counters (heldOf s m) ≡ quietStep
+  pub calm-step : step1 t x counters (heldOf s m) ≡ step2 t x counters (heldOf s m)
   unfolding step1
-  quiet-step = ap syncedBy (quiet-synced s t (pidOf x) quietState (rightSync x) (quietPacket .sync)) ∙ quiet-step-2
+  calm-step = ap syncedBy (quiet-synced s m t q h (rightSync x) right)
+
+  pub calm-call : PacketAccepted s t x counters m room → (after : Step) → step2 t x counters (heldOf s m) ≡ after → after .events ≡ [] → packetCall s t x counters m room
+      ≡ record { refusal = 0; state = record { latest = t; core = after .held .core }; counters = after .counters; memory = after .held .memory; events = [] }
+  calm-call ok after e none =
+      packet-call-accepted s t x counters m room (accepted-packet s t x counters m room ok) ∙ rw (calm-step, e, none, quiet-timely s m t q h)
+
+module _ (s : State) (m : List ℕ) (t : ℕ) (x counters : List ℕ) (room : ℕ) (e : quietCall s m t x counters room ≡ true) where
+  pub call-lengths : (length x ≡ packetSize) × (length counters ≡ tableSize)
+  call-lengths = packet-lengths t x counters room (passed (packetQuiet t x counters room) (stateQuiet s m t (pidOf x)) e .0)
+
+  quietPacket : QuietPacket t x counters room
+  quietPacket = packet-parts t x counters room (passed (packetQuiet t x counters room) (stateQuiet s m t (pidOf x)) e .0)
+
+  quietState : QuietState s m t (pidOf x)
+  quietState = state-parts s m t (pidOf x) (passed (packetQuiet t x counters room) (stateQuiet s m t (pidOf x)) e .1)
+
+  abbrev quietStep : Step
+  quietStep = record { held = heldOf s m; counters = countedTable x counters; events = [] }
+
+  nowhere : roomFor (s .core) (pidOf x) ≡ noRoom
+  nowhere = quiet-room s m t (pidOf x) quietState (quietPacket .low)
+
+  -- 5: no sections of the PID are built, and it is no PID whose scrambling is an event
+  abbrev after5 : List ℕ → Step
+  after5 cs = record { held = heldOf s m; counters = cs; events = [] }
+
+  quiet-step-5 : (take : Bool) (cs : List ℕ) → length (s .core .half) ≤ roomCount → step5 t x take cs (heldOf s m) ≡ after5 cs
+  quiet-step-5 take cs l =
+      rw (nowhere, dropped-nowhere s m l, ne-eqb (pidOf x) 0 (λ z. omega (arith, quietPacket .low)), quiet-unlisted s m t (pidOf x) quietState) (go (scrambledBits x) take)
+    where
+      go : (b c : Bool) → cond b (after5 cs) (cond c (after5 cs) (after5 cs)) ≡ after5 cs
+      go true c = refl
+      go false true = refl
+      go false false = refl
+
+  -- 4: by the judgement of the counter
+  quiet-step-4 : length (s .core .half) ≤ roomCount → (j : Counted) → j .event ≡ false
+      → also (packetEvents t x (cond (j .event) (continuityError ∷ []) []))
+      (step5 t x (j .take) (set counters (pidOf x) (j .byte)) (cond (j .keep) (heldOf s m) (droppedRoom (roomFor (s .core) (pidOf x)) (heldOf s m))))
+      ≡ after5 (set counters (pidOf x) (j .byte))
+  quiet-step-4 l j none =
+      let cs = set counters (pidOf x) (j .byte) in
+      ap (λ (b : Bool). also (packetEvents t x (cond b (continuityError ∷ []) [])) (step5 t x (j .take) cs (cond (j .keep) (heldOf s m) (droppedRoom (roomFor (s .core) (pidOf x)) (heldOf s m))))) none
+      ∙ ap (step5 t x (j .take) cs) (ap (λ (r : ℕ). cond (j .keep) (heldOf s m) (droppedRoom r (heldOf s m))) nowhere ∙ kept (j .keep))
+      ∙ quiet-step-5 (j .take) cs l
+    where
+      kept : (b : Bool) → cond b (heldOf s m) (droppedRoom noRoom (heldOf s m)) ≡ heldOf s m
+      kept true = refl
+      kept false = dropped-nowhere s m l
+
+  -- 3 and 2
+  quiet-step-2 : length (s .core .half) ≤ roomCount → step2 t x counters (heldOf s m) ≡ quietStep
+  quiet-step-2 l = rw (quietPacket .error) (go (idlePacket x) (quietPacket .silent))
+    where
+      go : (b : Bool) → (b || not (counted x counters .event)) ≡ true
+          → cond b (after5 counters) (step4 t x counters (heldOf s m)) ≡ after5 (cond b counters (set counters (pidOf x) (counted x counters .byte)))
+      go true z = refl
+      go false z = quiet-step-4 l (counted x counters) (not-true (counted x counters .event) z)
 
   -- THE CALL
   quiet-accepted : length (s .core .since) ≤ 5 → PacketAccepted s t x counters m room
@@ -244,19 +227,11 @@ module _ (s : State) (t : ℕ) (x counters m : List ℕ) (room : ℕ) (e : quiet
         table = quietPacket .table;
         room = quietPacket .records;
         time = leb-true t latestTime (quietPacket .time);
-        sound = quiet-sound s t (pidOf x) quietState m l;
-        byte = byte-known (getD counters (pidOf x) 0) (counterOf x) (quietPacket .byte);
+        sound = quiet-sound s m t (pidOf x) quietState l;
+        byte = quietPacket .byte;
         order = quietState .order;
       }
 
-  pub quiet-call : length (s .core .since) ≤ 5 → packetCall s t x counters m room
-      ≡ record {
-        refusal = 0;
-        state = record { latest = t; core = s .core };
-        counters = set counters (pidOf x) (16 + counterOf x);
-        memory = m;
-        events = [];
-      }
-  quiet-call l =
-      packet-call-accepted s t x counters m room (accepted-packet s t x counters m room (quiet-accepted l))
-      ∙ rw (quiet-step, quiet-timely s t (pidOf x) quietState)
+  pub quiet-call : length (s .core .since) ≤ 5 → length (s .core .half) ≤ roomCount → packetCall s t x counters m room
+      ≡ record { refusal = 0; state = record { latest = t; core = s .core }; counters = countedTable x counters; memory = m; events = [] }
+  quiet-call l g = calm-call s m t (pidOf x) quietState x counters room (quietPacket .sync) (quiet-accepted l) quietStep (quiet-step-2 g) refl

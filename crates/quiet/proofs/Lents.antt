@@ -22,9 +22,9 @@ use Rattle.quiet.specs.Quiet.{stateQuiet, packetQuiet, quietCall, quietI
 use Rattle.quiet.proofs.Turns.{passed}
 use Rattle.quiet.proofs.Calls.{state-parts, quiet-call}
 
-pub in-arrays : (times words : List ℕ) (t : ℕ) (x counters : List ℕ) (room : ℕ) → length times ≡ timeCount → length words ≡ wordCount
-    → quietIn times words t x counters room ≡ quietCall (stateIn times words) t x counters room
-in-arrays times words t x counters room long wide = rw (eq-eqb (length times) timeCount long, eq-eqb (length words) wordCount wide)
+pub in-arrays : (times words m : List ℕ) (t : ℕ) (x counters : List ℕ) (room : ℕ) → length times ≡ timeCount → length words ≡ wordCount
+    → quietIn times words m t x counters room ≡ quietCall (stateIn times words) m t x counters room
+in-arrays times words m t x counters room long wide = rw (eq-eqb (length times) timeCount long, eq-eqb (length words) wordCount wide)
 
 -- THE ARRAYS of a quiet call: all numbers but the latest time are as they were
 each : (l : List ℕ) (n : ℕ) → length l ≡ n → tabled (λ (j : ℕ). getD l (0 + j) 0) 0 n ≡ l
@@ -62,22 +62,22 @@ words-same times words t wide lost run count =
         ∙ ap (λ (n : ℕ). getD words 53 0 ∷ getD words 54 0 ∷ n ∷ []) count
 
 -- the three numbers behind the rest come back where the state is quiet
-lost-same : (w : ℕ) → lostIn w ≡ false → lostWord (lostIn w) ≡ w
+pub lost-same : (w : ℕ) → lostIn w ≡ false → lostWord (lostIn w) ≡ w
 lost-same w e = rw e (sym (eqb-true w 0 (not-false (eqb w 0) e)))
 
-run-same : (w : ℕ) → runIn w ≡ 0 → runIn w ≡ w
+pub run-same : (w : ℕ) → runIn w ≡ 0 → runIn w ≡ w
 run-same w = go (leb w 255)
   where
     go : (b : Bool) → cond b w 255 ≡ 0 → cond b w 255 ≡ w
     go true e = refl
     go false e = absurd (omega arith)
 
-count-same : (w : ℕ) → w ≤ 16 → countWord w ≡ w
+pub count-same : (w : ℕ) → w ≤ 16 → countWord w ≡ w
 count-same w h = rw (le-leb w 65535 (omega arith))
 
 module _ (times words : List ℕ) (t : ℕ) (x counters m : List ℕ) (room : ℕ) where
   abbrev quiet : Bool
-  quiet = quietIn times words t x counters room
+  quiet = quietIn times words m t x counters room
 
   abbrev called : Result
   called = packetCall (stateIn times words) t x counters m room
@@ -93,12 +93,13 @@ module _ (times words : List ℕ) (t : ℕ) (x counters m : List ℕ) (room : �
   unfolding stateIn timesAfter wordsAfter
   quiet-done e =
       let lengths = eqb (length times) timeCount && eqb (length words) wordCount in
-      let both = passed lengths (quietCall (stateIn times words) t x counters room) e in
+      let both = passed lengths (quietCall (stateIn times words) m t x counters room) e in
       let long = eqb-true (length times) timeCount (and-left (eqb (length times) timeCount) (eqb (length words) wordCount) (both .0)) in
       let wide = eqb-true (length words) wordCount (and-right (eqb (length times) timeCount) (eqb (length words) wordCount) (both .0)) in
       let five : length (part times 1 5) ≤ 5 = omega (arith, part-length times 1 5 (omega arith)) in
-      let call = sym (quiet-call (stateIn times words) t x counters m room (both .1) five) in
-      let state = state-parts (stateIn times words) t (pidOf x) (passed (packetQuiet t x counters room) (stateQuiet (stateIn times words) t (pidOf x)) (both .1) .1) in
+      let rooms : length (part words 32 21) ≤ 21 = omega (arith, part-length words 32 21 (omega arith)) in
+      let call = sym (quiet-call (stateIn times words) m t x counters room (both .1) five rooms) in
+      let state = state-parts (stateIn times words) m t (pidOf x) (passed (packetQuiet t x counters room) (stateQuiet (stateIn times words) m t (pidOf x)) (both .1) .1) in
       let lost = lost-same (getD words 53 0) (state .insync) in
       let run = run-same (getD words 54 0) (state .run) in
       let count = count-same (getD words 55 0) (state .count) in (

@@ -1,7 +1,8 @@
 -- A quiet packet call: document 01, "Judging one packet" and "Watches and lateness". A call is quiet where all that it does is seen at a glance:
--- nothing is late, nothing is half-built, and the packet is in sync, whole, and of a PID on which no sections are built. It gives no event; the
--- packet's counter goes into the table, and its time becomes the latest. That this is what the call does is `proofs/Calls.antt`; a call that is
--- not quiet is made as any other. p is the latest accepted time, t the call's time, q the packet's PID.
+-- nothing is late, and the packet is in sync, without a transport error, of a PID on which no sections are built, with nothing to be said of its
+-- counter. It gives no event; step 4 leaves its byte in the table, and its time becomes the latest. That this is what the call does is
+-- `proofs/Calls.antt`; a call that is not quiet is made as any other. p is the latest accepted time, t the call's time, q the packet's PID, m is
+-- section memory.
 --
 --   gapQuiet limit p t s  == a gap start s not above 2^62, whose stamp does not fall due at t
 --   tablesQuiet p t rs ss == those of fixed tables
@@ -11,13 +12,15 @@
 --   noneHalf ns           == nothing is half-built
 --   syncQuiet c           == in sync, with no wrong byte before, at most sixteen programmes listed
 --   latestQuiet p t       == the latest time not above 2^62, the call's not below it
---   stateQuiet s t q      == the state is quiet for a packet of the PID q
+--   stateQuiet s m t q    == the state is quiet for a packet of the PID q; half-built sections are as refusal 5 has them
 --   sizesQuiet            == what refusals 1 to 4 ask
---   headQuiet x           == a right sync byte, no error bit, not scrambled, control 01, a PID of 0x0020 to 0x1FFE
---   byteQuiet b n         == the counter n on an unseen PID, or one more than the last
---   countQuiet            == a packet of which only the counter is looked at, and follows
+--   headQuiet x           == a right sync byte, no error bit, a PID of 0x0020 or above
+--   idlePacket x          == step 3: a null packet, or control 00
+--   byteQuiet             == a table byte that these calls leave, and no event of step 4
+--   countQuiet            == a packet of which only the counter is looked at, with nothing to be said of it
 --   packetQuiet           == the packet x is quiet
 --   quietCall, quietIn    == both are, in a state by value or in two arrays
+--   countedTable          == the counter table after step 3, or step 4
 --   quietTimes, quietTable == the times and the counter table after the quiet part of a call, which leaves them where the call is not quiet
 --   firstOf quiet         == what is told of it: a quiet call is accepted, with no event
 use Prim.Native.Nat.{ℕ, _+_, _%_}
@@ -27,13 +30,14 @@ use lib.Dec.{leb, ltb, eqb}
 use lib.ListN.{length, getD, set, replicate}
 use Rattle.watches.specs.declared.Entry.{Entry}
 use Rattle.watches.specs.Tables.{Table, fixedTables, pmtTable}
-use Rattle.header.specs.Header.{packetSize, rightSync, errorBit, scrambledBits, controlOf, pidOf, counterOf}
-use Rattle.continuity.specs.Continuity.{knownByte, lastOf}
-use Rattle.programmes.specs.Listing.{lowestPid, mostListed}
+use Rattle.header.specs.Header.{packetSize, rightSync, errorBit, controlOf, pidOf}
+use Rattle.continuity.specs.Continuity.{knownByte}
+use Rattle.programmes.specs.Listing.{lowestPid, mostListed, nullPid}
 use Rattle.calls.specs.declared.Core.{Core}
 use Rattle.calls.specs.declared.State.{State}
 use Rattle.calls.specs.Cores.{listed}
-use Rattle.calls.specs.Sound.{greatestPid, timeSound}
+use Rattle.calls.specs.Sound.{greatestPid, timeSound, roomsSound}
+use Rattle.calls.specs.Steps.{counted}
 use Rattle.calls.specs.Calls.{tableSize, leastRoom}
 use Rattle.arrays.specs.Lent.{timeCount, wordCount, stateIn}
 use Rattle.quiet.specs.declared.First.{First}
@@ -78,11 +82,11 @@ syncQuiet c = not (c .lost) && eqb (c .run) 0 && leb (c .count) mostListed
 abbrev pub latestQuiet : ℕ → ℕ → Bool
 latestQuiet p t = timeSound p && leb p t
 
-unfoldable pub stateQuiet : State → ℕ → ℕ → Bool
-stateQuiet s t q =
+unfoldable pub stateQuiet : State → List ℕ → ℕ → ℕ → Bool
+stateQuiet s m t q =
     cond (syncQuiet (s .core))
     (cond (latestQuiet (s .latest) t)
-    (cond (noneHalf (s .core .half))
+    (cond (roomsSound (s .core .half) m)
     (cond (tablesQuiet (s .latest) t fixedTables (s .core .since)) (entriesQuiet (s .latest) t q unmarked (listed (s .core)))
     false)
     false)
@@ -94,32 +98,37 @@ abbrev pub sizesQuiet : ℕ → List ℕ → List ℕ → ℕ → Bool
 sizesQuiet t x counters room = eqb (length x) packetSize && eqb (length counters) tableSize && leb leastRoom room && timeSound t
 
 abbrev pub headQuiet : List ℕ → Bool
-headQuiet x =
-    rightSync x && not (errorBit x) && not (scrambledBits x) && eqb (controlOf x) 1 && leb lowestPid (pidOf x) && leb (pidOf x) greatestPid
+headQuiet x = rightSync x && not (errorBit x) && leb lowestPid (pidOf x)
 
-abbrev pub byteQuiet : ℕ → ℕ → Bool
-byteQuiet b n = eqb b 0 || (knownByte b && eqb n ((lastOf b + 1) % 16))
+abbrev pub idlePacket : List ℕ → Bool
+idlePacket x = eqb (pidOf x) nullPid || eqb (controlOf x) 0
+
+abbrev pub byteQuiet : List ℕ → List ℕ → Bool
+byteQuiet x counters = cond (knownByte (getD counters (pidOf x) 0)) (idlePacket x || not (counted x counters .event)) false
 
 abbrev pub countQuiet : List ℕ → List ℕ → Bool
-countQuiet x counters = cond (headQuiet x) (byteQuiet (getD counters (pidOf x) 0) (counterOf x)) false
+countQuiet x counters = cond (headQuiet x) (byteQuiet x counters) false
 
 abbrev pub packetQuiet : ℕ → List ℕ → List ℕ → ℕ → Bool
 packetQuiet t x counters room = cond (sizesQuiet t x counters room) (countQuiet x counters) false
 
 -- THE CALL
-abbrev pub quietCall : State → ℕ → List ℕ → List ℕ → ℕ → Bool
-quietCall s t x counters room = cond (packetQuiet t x counters room) (stateQuiet s t (pidOf x)) false
+abbrev pub quietCall : State → List ℕ → ℕ → List ℕ → List ℕ → ℕ → Bool
+quietCall s m t x counters room = cond (packetQuiet t x counters room) (stateQuiet s m t (pidOf x)) false
 
-abbrev pub quietIn : List ℕ → List ℕ → ℕ → List ℕ → List ℕ → ℕ → Bool
-quietIn times words t x counters room =
-    cond (eqb (length times) timeCount && eqb (length words) wordCount) (quietCall (stateIn times words) t x counters room) false
+abbrev pub quietIn : List ℕ → List ℕ → List ℕ → ℕ → List ℕ → List ℕ → ℕ → Bool
+quietIn times words m t x counters room =
+    cond (eqb (length times) timeCount && eqb (length words) wordCount) (quietCall (stateIn times words) m t x counters room) false
 
 -- WHAT IT LEAVES
 abbrev pub quietTimes : Bool → ℕ → List ℕ → List ℕ
 quietTimes quiet t times = cond quiet (set times 0 t) times
 
+abbrev pub countedTable : List ℕ → List ℕ → List ℕ
+countedTable x counters = cond (idlePacket x) counters (set counters (pidOf x) (counted x counters .byte))
+
 abbrev pub quietTable : Bool → List ℕ → List ℕ → List ℕ
-quietTable quiet x counters = cond quiet (set counters (pidOf x) (16 + counterOf x)) counters
+quietTable quiet x counters = cond quiet (countedTable x counters) counters
 
 abbrev pub firstOf : Bool → First
 firstOf quiet = record { done = quiet; answer = record { refusal = 0; n = 0 } }

@@ -1,24 +1,36 @@
 // The quiet part of a packet call on lent arrays: most packets of a stream are elementary data of which the
 // engine only counts, and then the call is two stores. What is not seen at a glance is left to the call
 // itself.
+mod value;
+
 use arrays::Reply;
+use header::Header;
+pub use value::quiet_value;
 ghost use mathlib.Core.Path.{_≡_};
-ghost use Prim.Native.Nat.{_+_, _*_, _%_, _≤_, _<_};
-ghost use mathlib.Core.Bool.{_&&_};
+ghost use Prim.Native.Nat.{_+_, _≤_, _<_};
+ghost use mathlib.Core.Bool.{false, cond, not, _&&_, _||_};
 ghost use lib.Dec.{eqb, leb};
 ghost use lib.ListN.{length, getD, set, take};
 ghost use Rattle.lists.specs.Places.{part};
 ghost use Rattle.watches.specs.Tables.{fixedTables, latestTime};
-ghost use Rattle.header.specs.Header.{packetSize, pidOf, counterOf};
+ghost use Rattle.header.specs.Header.{packetSize, headerOf};
+ghost use Rattle.continuity.specs.Continuity.{knownByte, countedOf};
+ghost use Rattle.sections.specs.Rooms.{memorySize};
+ghost use Rattle.programmes.specs.Listing.{lowestPid, nullPid};
 ghost use Rattle.arrays.specs.Lent.{timeCount, wordCount, entryIn, tabled, stateIn};
+ghost use Rattle.calls.specs.Sound.{roomsSound};
 ghost use Rattle.calls.specs.Calls.{tableSize};
-ghost use Rattle.quiet.specs.Quiet.{gapQuiet, tablesQuiet, entryQuiet, entriesQuiet, unmarked, noneHalf, latestQuiet, stateQuiet, sizesQuiet, headQuiet, byteQuiet, countQuiet, packetQuiet, quietCall, quietIn, quietTimes, quietTable, firstOf};
+ghost use Rattle.quiet.specs.Quiet.{gapQuiet, tablesQuiet, entryQuiet, entriesQuiet, unmarked, noneHalf, latestQuiet, stateQuiet, sizesQuiet, countQuiet, packetQuiet, quietCall, quietIn, quietTimes, countedTable, quietTable, firstOf};
 
 const LATEST_TIME: u64 = 4_611_686_018_427_387_904;
 
 const LOWEST_PID: u16 = 0x0020;
 
 const GREATEST_PID: u16 = 0x1FFE;
+
+const NULL_PID: u16 = 0x1FFF;
+
+const SYNC_BYTE: u8 = 0x47;
 
 const PMT_LIMIT: u64 = 13_500_000;
 
@@ -78,6 +90,18 @@ fn none_half(words: &[u16]) -> bool
     none
 }
 
+// Whether half-built sections are as refusal 5 has them: mostly there are none.
+fn rooms_quiet(words: &[u16], memory: &[u8]) -> bool
+    requires { ⌜ (length (now words) ≡ wordCount) × (length (now memory) ≡ memorySize) ⌝ }
+    ensures { λ r. ⌜ r ≡ roomsSound (part (now (words .entry)) 32 21) (now (memory .entry)) ⌝ }
+{
+    if none_half(words) {
+        return true;
+    }
+    let half = arrays::halves_in(words);
+    checks::rooms_sound(half, memory)
+}
+
 // Whether a listed entry is one that refusal 5 passes, quiet, and on another PID than q.
 fn entry_quiet(number: u16, pid: u16, since: u64, p: u64, t: u64, q: u16) -> bool
     ensures { λ r. ⌜ r ≡ entryQuiet p t q (record { number = number; pid = pid; since = since }) ⌝ }
@@ -127,9 +151,9 @@ fn latest_quiet(p: u64, t: u64) -> bool
 }
 
 // Whether the state is quiet for a packet of the PID q.
-fn state_quiet(times: &[u64], words: &[u16], t: u64, q: u16) -> bool
-    requires { ⌜ (length (now times) ≡ timeCount) × (length (now words) ≡ wordCount) ⌝ }
-    ensures { λ r. ⌜ r ≡ stateQuiet (stateIn (now (times .entry)) (now (words .entry))) t q ⌝ }
+pub fn state_quiet(times: &[u64], words: &[u16], memory: &[u8], t: u64, q: u16) -> bool
+    requires { ⌜ (length (now times) ≡ timeCount) × (length (now words) ≡ wordCount) × (length (now memory) ≡ memorySize) ⌝ }
+    ensures { λ r. ⌜ r ≡ stateQuiet (stateIn (now (times .entry)) (now (words .entry))) (now (memory .entry)) t q ⌝ }
 {
     let count = words[55];
     if !sync_quiet(words[53], words[54], count) {
@@ -138,7 +162,7 @@ fn state_quiet(times: &[u64], words: &[u16], t: u64, q: u16) -> bool
     if !latest_quiet(times[0], t) {
         return false;
     }
-    if !none_half(words) {
+    if !rooms_quiet(words, memory) {
         return false;
     }
     if !tables_quiet(times, t) {
@@ -147,50 +171,52 @@ fn state_quiet(times: &[u64], words: &[u16], t: u64, q: u16) -> bool
     entries_quiet(times, words, count as usize, t, q)
 }
 
-// The 13 PID bits in two bytes.
-fn pid_bits(high: u8, low: u8) -> u16
-    ensures { λ r. ⌜ (r ≡ high % 32 * 256 + low) × (r < 8192) ⌝ }
+// Whether the packet is in sync and without a transport error, on a PID of elementary streams or the null PID.
+fn head_quiet(sync: u8, h: Header) -> bool
+    ensures { λ r. ⌜ r ≡ (eqb sync 0x47 && not (h .error) && leb lowestPid (h .pid)) ⌝ }
 {
-    (high % 32) as u16 * 256 + low as u16
+    (sync == SYNC_BYTE) & !h.error & (LOWEST_PID <= h.pid)
 }
 
-// Whether the packet is in sync, whole and in the clear, with a payload, on a PID of elementary streams.
-fn head_quiet(packet: &[u8], pid: u16) -> bool
-    requires { ⌜ (length (now packet) ≡ packetSize) × (pid ≡ pidOf (now packet)) ⌝ }
-    ensures { λ r. ⌜ r ≡ headQuiet (now (packet .entry)) ⌝ }
+// Step 3: a null packet, or no payload at all.
+fn is_idle(h: Header) -> bool
+    ensures { λ r. ⌜ r ≡ (eqb (h .pid) nullPid || eqb (h .control) 0) ⌝ }
 {
-    (packet[0] == 0x47)
-        & !(128 <= packet[1])
-        & !(64 <= packet[3])
-        & (packet[3] / 16 % 4 == 1)
-        & (LOWEST_PID <= pid)
-        & (pid <= GREATEST_PID)
+    (h.pid == NULL_PID) | (h.control == 0)
 }
 
-// Whether the counter is the first of its PID, or follows the last.
-fn byte_quiet(byte: u8, counter: u8) -> bool
-    ensures { λ r. ⌜ r ≡ byteQuiet byte counter ⌝ }
+// Whether the table byte is one that these calls leave, and step 4 has no event.
+fn byte_quiet(byte: u8, h: Header) -> bool
+    requires { ⌜ h .counter < 16 ⌝ }
+    ensures { λ r. ⌜ r ≡ cond (knownByte byte) ((eqb (h .pid) nullPid || eqb (h .control) 0) || not (countedOf byte h .event)) false ⌝ }
 {
-    (byte == 0) | (continuity::known_byte(byte) & (counter == (byte % 16 + 1) % 16))
+    if !continuity::known_byte(byte) {
+        return false;
+    }
+    if is_idle(h) {
+        return true;
+    }
+    let j = continuity::judge(byte, h);
+    !j.event
 }
 
 // Whether packet, table, list and time are as refusals 1 to 4 ask.
-fn sizes_quiet(t: u64, packet: &[u8], counters: &[u8], room: usize) -> bool
+pub fn sizes_quiet(t: u64, packet: &[u8], counters: &[u8], room: usize) -> bool
     ensures { λ r. ⌜ r ≡ sizesQuiet t (now (packet .entry)) (now (counters .entry)) room ⌝ }
 {
     (packet.len() == 188) & (counters.len() == 8192) & (96 <= room) & (t <= LATEST_TIME)
 }
 
-// Whether the packet is one of which only the counter is looked at, and follows.
+// Whether the packet is one of which only the counter is looked at, with nothing to be said of it.
 fn count_quiet(packet: &[u8], counters: &[u8]) -> bool
     requires { ⌜ (length (now packet) ≡ packetSize) × (length (now counters) ≡ tableSize) ⌝ }
     ensures { λ r. ⌜ r ≡ countQuiet (now (packet .entry)) (now (counters .entry)) ⌝ }
 {
-    let pid = pid_bits(packet[1], packet[2]);
-    if !head_quiet(packet, pid) {
+    let h = header::read(packet);
+    if !head_quiet(packet[0], h) {
         return false;
     }
-    byte_quiet(counters[pid as usize], packet[3] % 16)
+    byte_quiet(counters[h.pid as usize], h)
 }
 
 // Whether the packet is quiet.
@@ -207,28 +233,47 @@ fn packet_quiet(t: u64, packet: &[u8], counters: &[u8], room: usize) -> bool
 fn call_quiet(
     times: &[u64],
     words: &[u16],
+    memory: &[u8],
     t: u64,
     packet: &[u8],
     counters: &[u8],
     room: usize,
 ) -> bool
-    requires { ⌜ (length (now times) ≡ timeCount) × (length (now words) ≡ wordCount) ⌝ }
-    ensures { λ r. ⌜ r ≡ quietCall (stateIn (now (times .entry)) (now (words .entry))) t (now (packet .entry)) (now (counters .entry)) room ⌝ }
+    requires { ⌜ (length (now times) ≡ timeCount) × (length (now words) ≡ wordCount) × (length (now memory) ≡ memorySize) ⌝ }
+    ensures { λ r. ⌜ r ≡ quietCall (stateIn (now (times .entry)) (now (words .entry))) (now (memory .entry)) t (now (packet .entry)) (now (counters .entry)) room ⌝ }
 {
     if !packet_quiet(t, packet, counters, room) {
         return false;
     }
-    let pid = pid_bits(packet[1], packet[2]);
-    state_quiet(times, words, t, pid)
+    let h = header::read(packet);
+    state_quiet(times, words, memory, t, h.pid)
 }
 
-// The counter table after a quiet call: the packet's counter is the last of its PID.
-fn count_packet(packet: &[u8], counters: &mut [u8])
+// The counter table after steps 3 and 4.
+pub fn count_packet(packet: &[u8], counters: &mut [u8])
     requires { ⌜ (length (now packet) ≡ packetSize) × (length (now counters) ≡ tableSize) ⌝ }
-    ensures { λ _. ⌜ now (counters .exit) ≡ set (now (counters .entry)) (pidOf (now (packet .entry))) (16 + counterOf (now (packet .entry))) ⌝ }
+    ensures { λ _. ⌜ now (counters .exit) ≡ countedTable (now (packet .entry)) (now (counters .entry)) ⌝ }
 {
-    let pid = pid_bits(packet[1], packet[2]);
-    counters[pid as usize] = 16 + packet[3] % 16;
+    let h = header::read(packet);
+    if is_idle(h) {
+        return;
+    }
+    let pid = h.pid as usize;
+    let j = continuity::judge(counters[pid], h);
+    counters[pid] = j.byte;
+}
+
+fn bytes_in(s: &[u8]) -> usize
+    ensures { λ r. ⌜ r ≡ length (now (s .entry)) ⌝ }
+{
+    s.len()
+}
+
+// Section memory has its length by its type: a call of this shows it.
+pub fn memory_size(memory: &[u8; 24576]) -> usize
+    ensures { λ r. ⌜ (r ≡ memorySize) × (length (now (memory .entry)) ≡ memorySize) ⌝ }
+{
+    bytes_in(memory)
 }
 
 // The quiet part of a packet call: where the call is quiet it is done here, and otherwise nothing is.
@@ -241,19 +286,20 @@ pub fn quiet_packet(
     memory: &mut [u8; 24576],
     room: usize,
 ) -> First
-    ensures { λ r. ⌜ (r ≡ firstOf (quietIn (now (times .entry)) (now (words .entry)) time (now (packet .entry)) (now (counters .entry)) room))
-        × (now (times .exit) ≡ quietTimes (quietIn (now (times .entry)) (now (words .entry)) time (now (packet .entry)) (now (counters .entry)) room) time (now (times .entry)))
+    ensures { λ r. ⌜ (r ≡ firstOf (quietIn (now (times .entry)) (now (words .entry)) (now (memory .entry)) time (now (packet .entry)) (now (counters .entry)) room))
+        × (now (times .exit) ≡ quietTimes (quietIn (now (times .entry)) (now (words .entry)) (now (memory .entry)) time (now (packet .entry)) (now (counters .entry)) room) time (now (times .entry)))
         × (now (words .exit) ≡ now (words .entry))
-        × (now (counters .exit) ≡ quietTable (quietIn (now (times .entry)) (now (words .entry)) time (now (packet .entry)) (now (counters .entry)) room) (now (packet .entry)) (now (counters .entry)))
+        × (now (counters .exit) ≡ quietTable (quietIn (now (times .entry)) (now (words .entry)) (now (memory .entry)) time (now (packet .entry)) (now (counters .entry)) room) (now (packet .entry)) (now (counters .entry)))
         × (now (memory .exit) ≡ now (memory .entry)) ⌝ }
 {
     let a = arrays::time_count(times);
     let b = arrays::word_count(words);
+    let size = memory_size(memory);
     let no = First {
         done: false,
         answer: Reply { refusal: 0, n: 0 },
     };
-    if !call_quiet(times, words, time, packet, counters, room) {
+    if !call_quiet(times, words, memory, time, packet, counters, room) {
         return no;
     }
     count_packet(packet, counters);

@@ -1,25 +1,34 @@
 -- `quiet::count_packet` meets its contract. Assumes nothing.
 use borrow.Author.Needs.{needs}
+use mathlib.Core.Path.{sym, ap, _∙_}
+use native.Mathlib.Omega.{arith}
+use denote.Ref.{now}
+use Rattle.header.specs.declared.Header.{Header}
+use Rattle.header.specs.Header.{headerOf}
+use Rattle.header.proofs.Payload.{counter-small}
 use Rattle.quiet.proofs.count_packet.Statement.{statement}
 use Rattle.quiet.proofs.count_packet.Tie as tie
 
-shared-slice-read-pid-bits : tie.Need-shared-slice-read-pid-bits
-shared-slice-read-pid-bits c = search needs
+read-requires : tie.Need-read-requires
+read-requires c κs = search needs
 
-shared-slice-read-pid-bits-2 : tie.Need-shared-slice-read-pid-bits-2
-shared-slice-read-pid-bits-2 c = search needs
+is-idle-requires : tie.Need-is-idle-requires
+is-idle-requires c κs = search needs
 
-pid-bits-requires : tie.Need-pid-bits-requires
-pid-bits-requires c κs = search needs
+returns : tie.Need-returns
+unfolding headerOf
+returns c = rw (sym (rw (c .before .before .read .ensures .0) at (c .before .is-idle .ensures)) ∙ c .if1 .taken)
 
-shared-slice-read-counters : tie.Need-shared-slice-read-counters
-shared-slice-read-counters c = search needs
+cast-pid : tie.Need-cast-pid
+cast-pid c = search needs
 
-add-counters : tie.Need-add-counters
-add-counters c = search needs
+slice-read-judge : tie.Need-slice-read-judge
+slice-read-judge c = search needs
 
-cast-counters : tie.Need-cast-counters
-cast-counters c = search needs
+judge-requires : tie.Need-judge-requires
+unfolding headerOf
+judge-requires c κs =
+    omega (arith, ap (λ (h : Header). h .counter) (c .before .before .before .before .read .ensures .0), counter-small (now (c .before .before .before .before .before .before .before .args .packet)))
 
 slice-write-counters : tie.Need-slice-write-counters
 slice-write-counters c = search needs
@@ -27,19 +36,23 @@ slice-write-counters c = search needs
 same-length : tie.Need-same-length
 same-length c = search needs
 
-returns : tie.Need-returns
-returns c = rw (c .before .pid-bits .ensures .0)
+returns-2 : tie.Need-returns-2
+unfolding headerOf
+returns-2 c =
+    let read = c .before .before .before .before .before .read .ensures .0 in
+    let idle = rw read at (c .before .before .before .before .is-idle .ensures) in
+    rw (sym idle ∙ c .before .before .before .if1 .left, c .judge .ensures, read)
 
 pub count-packet-spec : {M : Type 1} → statement M
 count-packet-spec =
     tie.close
     (tie.spec
-    shared-slice-read-pid-bits
-    shared-slice-read-pid-bits-2
-    pid-bits-requires
-    shared-slice-read-counters
-    add-counters
-    cast-counters
+    read-requires
+    is-idle-requires
+    returns
+    cast-pid
+    slice-read-judge
+    judge-requires
     slice-write-counters
     same-length
-    returns)
+    returns-2)

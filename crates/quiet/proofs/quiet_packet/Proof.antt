@@ -14,6 +14,9 @@ time-count-requires c κs = search needs
 word-count-requires : tie.Need-word-count-requires
 word-count-requires c κs = search needs
 
+memory-size-requires : tie.Need-memory-size-requires
+memory-size-requires c κs = search needs
+
 call-quiet-requires : tie.Need-call-quiet-requires
 call-quiet-requires c κs = search needs
 
@@ -22,17 +25,17 @@ same-length c = search needs
 
 returns : tie.Need-returns
 returns c =
-    let a = c .before .before .before .before .before .before .before .before .before .before .before .before .before .args in
-    let long = c .before .before .before .before .before .before .before .before .before .time-count .ensures .1 in
-    let wide = c .before .before .before .before .before .before .before .word-count .ensures .1 in
-    let quiet = in-arrays (a .times .now) (a .words .now) (a .time) (a .packet .now) (a .counters .now) (a .room) long wide in
+    let a = c .before .before .before .before .before .before .before .before .before .before .before .before .before .before .before .before .before .args in
+    let long = c .before .before .before .before .before .before .before .before .before .before .before .before .before .time-count .ensures .1 in
+    let wide = c .before .before .before .before .before .before .before .before .before .before .before .word-count .ensures .1 in
+    let quiet = in-arrays (a .times .now) (a .words .now) (a .memory .now) (a .time) (a .packet .now) (a .counters .now) (a .room) long wide in
     let loud = quiet ∙ sym (c .before .call-quiet .ensures) ∙ not-true _ (c .if1 .taken) in
     (rw loud, rw loud, refl, rw loud, refl)
 
 count-packet-requires : tie.Need-count-packet-requires
 count-packet-requires c κs =
-    let a = c .before .before .before .before .before .before .before .before .before .before .before .before .before .before .args in
-    call-lengths (stateIn (a .times .now) (a .words .now)) (a .time) (a .packet .now) (a .counters .now) (a .memory .now) (a .room)
+    let a = c .before .before .before .before .before .before .before .before .before .before .before .before .before .before .before .before .before .before .args in
+    call-lengths (stateIn (a .times .now) (a .words .now)) (a .memory .now) (a .time) (a .packet .now) (a .counters .now) (a .room)
     (sym (c .before .before .call-quiet .ensures) ∙ not-false _ (c .before .if1 .left))
 
 element-write-times : tie.Need-element-write-times
@@ -43,10 +46,10 @@ same-length-2 c = search needs
 
 returns-2 : tie.Need-returns-2
 returns-2 c =
-    let a = c .before .before .before .before .before .before .before .before .before .before .before .before .before .before .before .before .before .args in
-    let long = c .before .before .before .before .before .before .before .before .before .before .before .before .before .time-count .ensures .1 in
-    let wide = c .before .before .before .before .before .before .before .before .before .before .before .word-count .ensures .1 in
-    let same = in-arrays (a .times .now) (a .words .now) (a .time) (a .packet .now) (a .counters .now) (a .room) long wide in
+    let a = c .before .before .before .before .before .before .before .before .before .before .before .before .before .before .before .before .before .before .before .before .before .args in
+    let long = c .before .before .before .before .before .before .before .before .before .before .before .before .before .before .before .before .before .time-count .ensures .1 in
+    let wide = c .before .before .before .before .before .before .before .before .before .before .before .before .before .before .before .word-count .ensures .1 in
+    let same = in-arrays (a .times .now) (a .words .now) (a .memory .now) (a .time) (a .packet .now) (a .counters .now) (a .room) long wide in
     let quiet = same ∙ sym (c .before .before .before .before .before .call-quiet .ensures) ∙ not-false _ (c .before .before .before .before .if1 .left) in
     (rw quiet, rw quiet, refl, rw quiet (c .before .before .count-packet .ensures), refl)
 
@@ -56,6 +59,7 @@ quiet-packet-spec =
     (tie.spec
     time-count-requires
     word-count-requires
+    memory-size-requires
     call-quiet-requires
     same-length
     returns

@@ -28,7 +28,7 @@ sync-quiet-requires c κs = search needs
 returns : tie.Need-returns
 unfolding stateQuiet stateIn
 returns c =
-    let words = c .before .before .before .before .before .before .before .args .words .now in
+    let words = c .before .before .before .before .before .before .before .before .args .words .now in
     rw (sym (sync-same (getD words 53 0) (getD words 54 0) (getD words 55 0)) ∙ sym (c .before .sync-quiet .ensures) ∙ not-true _ (c .if1 .taken))
 
 shared-slice-read-latest-quiet : tie.Need-shared-slice-read-latest-quiet
@@ -40,23 +40,23 @@ latest-quiet-requires c κs = search needs
 returns-2 : tie.Need-returns-2
 unfolding stateQuiet stateIn
 returns-2 c =
-    let words = c .before .before .before .before .before .before .before .before .before .before .args .words .now in
+    let words = c .before .before .before .before .before .before .before .before .before .before .before .args .words .now in
     rw (
       sym (sync-same (getD words 53 0) (getD words 54 0) (getD words 55 0)) ∙ sym (c .before .before .before .before .sync-quiet .ensures) ∙ not-false _ (c .before .before .before .if1 .left),
       sym (c .before .latest-quiet .ensures) ∙ not-true _ (c .if2 .taken),
     )
 
-none-half-requires : tie.Need-none-half-requires
-none-half-requires c κs = search needs
+rooms-quiet-requires : tie.Need-rooms-quiet-requires
+rooms-quiet-requires c κs = search needs
 
 returns-3 : tie.Need-returns-3
 unfolding stateQuiet stateIn
 returns-3 c =
-    let words = c .before .before .before .before .before .before .before .before .before .before .before .before .args .words .now in
+    let words = c .before .before .before .before .before .before .before .before .before .before .before .before .before .args .words .now in
     rw (
       sym (sync-same (getD words 53 0) (getD words 54 0) (getD words 55 0)) ∙ sym (c .before .before .before .before .before .before .sync-quiet .ensures) ∙ not-false _ (c .before .before .before .before .before .if1 .left),
       sym (c .before .before .before .latest-quiet .ensures) ∙ not-false _ (c .before .before .if2 .left),
-      sym (c .before .none-half .ensures) ∙ not-true _ (c .if3 .taken),
+      sym (c .before .rooms-quiet .ensures) ∙ not-true _ (c .if3 .taken),
     )
 
 tables-quiet-requires : tie.Need-tables-quiet-requires
@@ -65,34 +65,34 @@ tables-quiet-requires c κs = search needs
 returns-4 : tie.Need-returns-4
 unfolding stateQuiet stateIn
 returns-4 c =
-    let words = c .before .before .before .before .before .before .before .before .before .before .before .before .before .before .args .words .now in
+    let words = c .before .before .before .before .before .before .before .before .before .before .before .before .before .before .before .args .words .now in
     rw (
       sym (sync-same (getD words 53 0) (getD words 54 0) (getD words 55 0)) ∙ sym (c .before .before .before .before .before .before .before .before .sync-quiet .ensures) ∙ not-false _ (c .before .before .before .before .before .before .before .if1 .left),
       sym (c .before .before .before .before .before .latest-quiet .ensures) ∙ not-false _ (c .before .before .before .before .if2 .left),
-      sym (c .before .before .before .none-half .ensures) ∙ not-false _ (c .before .before .if3 .left),
+      sym (c .before .before .before .rooms-quiet .ensures) ∙ not-false _ (c .before .before .if3 .left),
       sym (c .before .tables-quiet .ensures) ∙ not-true _ (c .if4 .taken),
     )
 
 cast-entries-quiet : tie.Need-cast-entries-quiet
 cast-entries-quiet c =
-    let words = c .before .before .before .before .before .before .before .before .before .before .before .before .before .before .args .words .now in
+    let words = c .before .before .before .before .before .before .before .before .before .before .before .before .before .before .before .args .words .now in
     let few : getD words 55 0 ≤ 16 = leb-true (getD words 55 0) 16 (and-right (eqb (getD words 53 0) 0 && eqb (getD words 54 0) 0) (leb (getD words 55 0) 16) (sym (c .before .before .before .before .before .before .before .before .sync-quiet .ensures) ∙ not-false _ (c .before .before .before .before .before .before .before .if1 .left))) in
     search (needs, few)
 
 entries-quiet-requires : tie.Need-entries-quiet-requires
 entries-quiet-requires c κs =
-    let words = c .before .before .before .before .before .before .before .before .before .before .before .before .before .before .args .words .now in
+    let words = c .before .before .before .before .before .before .before .before .before .before .before .before .before .before .before .args .words .now in
     let few : getD words 55 0 ≤ 16 = leb-true (getD words 55 0) 16 (and-right (eqb (getD words 53 0) 0 && eqb (getD words 54 0) 0) (leb (getD words 55 0) 16) (sym (c .before .before .before .before .before .before .before .before .sync-quiet .ensures) ∙ not-false _ (c .before .before .before .before .before .before .before .if1 .left))) in
     search (needs, few)
 
 returns-5 : tie.Need-returns-5
 unfolding stateQuiet stateIn
 returns-5 c =
-    let words = c .before .before .before .before .before .before .before .before .before .before .before .before .before .before .before .args .words .now in
+    let words = c .before .before .before .before .before .before .before .before .before .before .before .before .before .before .before .before .args .words .now in
     rw (
       sym (sync-same (getD words 53 0) (getD words 54 0) (getD words 55 0)) ∙ sym (c .before .before .before .before .before .before .before .before .before .sync-quiet .ensures) ∙ not-false _ (c .before .before .before .before .before .before .before .before .if1 .left),
       sym (c .before .before .before .before .before .before .latest-quiet .ensures) ∙ not-false _ (c .before .before .before .before .before .if2 .left),
-      sym (c .before .before .before .before .none-half .ensures) ∙ not-false _ (c .before .before .before .if3 .left),
+      sym (c .before .before .before .before .rooms-quiet .ensures) ∙ not-false _ (c .before .before .before .if3 .left),
       sym (c .before .before .tables-quiet .ensures) ∙ not-false _ (c .before .if4 .left),
     )
     (c .entries-quiet .ensures)
@@ -109,7 +109,7 @@ state-quiet-spec =
     shared-slice-read-latest-quiet
     latest-quiet-requires
     returns-2
-    none-half-requires
+    rooms-quiet-requires
     returns-3
     tables-quiet-requires
     returns-4

@@ -1,0 +1,26 @@
+-- `quiet::rooms_quiet` meets its contract. Assumes nothing.
+use borrow.Author.Needs.{needs}
+use mathlib.Core.Path.{sym, ap, _∙_}
+use Rattle.quiet.proofs.Rooms.{none-rooms}
+use Rattle.quiet.proofs.rooms_quiet.Statement.{statement}
+use Rattle.quiet.proofs.rooms_quiet.Tie as tie
+
+none-half-requires : tie.Need-none-half-requires
+none-half-requires c κs = search needs
+
+returns : tie.Need-returns
+returns c = sym (none-rooms _ (c .before .before .before .before .args .memory .now) (sym (c .before .none-half .ensures) ∙ c .if1 .taken))
+
+halves-in-requires : tie.Need-halves-in-requires
+halves-in-requires c κs = search needs
+
+rooms-sound-requires : tie.Need-rooms-sound-requires
+rooms-sound-requires c κs = search needs
+
+returns-2 : tie.Need-returns-2
+returns-2 c = rw (c .before .halves-in .ensures) at (c .rooms-sound .ensures)
+
+pub rooms-quiet-spec : {M : Type 1} → statement M
+rooms-quiet-spec =
+    tie.close
+    (tie.spec none-half-requires returns halves-in-requires rooms-sound-requires returns-2)

@@ -1,0 +1,24 @@
+-- `quiet::value/rooms_quiet` meets its contract. Assumes nothing.
+use borrow.Author.Needs.{needs}
+use mathlib.Core.Path.{sym, _∙_}
+use native.Mathlib.Omega.{arith}
+use Rattle.quiet.proofs.Rooms.{none-rooms}
+use Rattle.quiet.proofs.value.rooms_quiet.Statement.{statement}
+use Rattle.quiet.proofs.value.rooms_quiet.Tie as tie
+
+none-half-requires : tie.Need-none-half-requires
+none-half-requires c κs = search needs
+
+returns : tie.Need-returns
+returns c =
+    let a = c .before .before .before .args in
+    (sym (none-rooms (a .half) (a .memory .now) (sym (c .before .none-half .ensures) ∙ c .if1 .taken)), omega arith)
+
+rooms-sound-requires : tie.Need-rooms-sound-requires
+rooms-sound-requires c κs = search needs
+
+returns-2 : tie.Need-returns-2
+returns-2 c = search needs
+
+pub rooms-quiet-spec : {M : Type 1} → statement M
+rooms-quiet-spec = tie.close (tie.spec none-half-requires returns rooms-sound-requires returns-2)
