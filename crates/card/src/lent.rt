@@ -61,7 +61,7 @@ pub fn lent_packet(
     let t = arrays::time_count(times);
     let w = arrays::word_count(words);
     let state = arrays::state_in(times, words);
-    let a = engine::packet_at(state, time, packet, counters, memory, room, numbers);
+    let a = engine::whole_packet_at(state, time, packet, counters, memory, room, numbers);
     settle(a, times, words);
     Reply {
         refusal: a.refusal,
@@ -92,8 +92,8 @@ pub fn lent_clock(
     }
 }
 
-// A packet call: the late events, then those of steps 1 to 5. Refusals 1 to 6. A quiet call is done on the arrays
-// themselves (crate `quiet`); any other is judged by value.
+// A packet call: the late events, then those of steps 1 to 5. Refusals 1 to 6. A short call is done on the arrays
+// themselves (crate `arrival`); any other is judged by value.
 #[no_mangle]
 pub extern "C" fn songpigeon_packet(
     times: &mut [u64; 22],
@@ -108,7 +108,7 @@ pub extern "C" fn songpigeon_packet(
         r (now (times .entry)) (now (times .exit)) (now (words .entry)) (now (words .exit)) (now (counters .exit)) (now (memory .exit)) (now (events .entry)) (now (events .exit)) ⌝ }
 {
     let room = events.len();
-    let first = quiet::quiet_packet(times, words, time, packet, counters, memory, room);
+    let first = arrival::short_packet(times, words, time, packet, counters, memory, room);
     if first.done {
         return first.answer;
     }

@@ -1,6 +1,7 @@
 -- No second outcome inside: the same for the functions between crates, where what they require is met or not. A fact that a promise adds to
 -- the equations, as `r < 256`, follows from them and takes nothing away. Assumes nothing.
 use mathlib.Core.Path.{_≡_, refl, sym, ap, _∙_}
+use mathlib.Core.Bool.{Bool}
 use mathlib.Core.List.{[], _∷_}
 use Prim.Native.Nat.{ℕ, _≤_, _<_}
 use native.Mathlib.Omega.{arith}
@@ -36,20 +37,30 @@ use Rattle.programmes.proofs.read_list.Reads as read-list
 use Rattle.programmes.proofs.place_of.Reads as place-of
 use Rattle.programmes.proofs.move_sections.Reads as move-sections
 use Rattle.payloads.proofs.take_payload.Reads as take-payload
+use Rattle.checks.proofs.rooms_sound.Reads as rooms-sound
 use Rattle.checks.proofs.open_refusal.Reads as open-refusal
 use Rattle.checks.proofs.packet_refusal.Reads as packet-refusal
 use Rattle.checks.proofs.clock_refusal.Reads as clock-refusal
+use Rattle.steps.proofs.fixed_room.Reads as fixed-room
 use Rattle.steps.proofs.judge_packet.Reads as judge-packet
 use Rattle.engine.proofs.open_at.Reads as open-at
+use Rattle.engine.proofs.whole_packet_at.Reads as whole-packet-at
 use Rattle.engine.proofs.packet_at.Reads as packet-at
 use Rattle.engine.proofs.clock_at.Reads as clock-at
 use Rattle.records.proofs.event_at.Reads as event-at
 use Rattle.arrays.proofs.time_count.Reads as time-count
 use Rattle.arrays.proofs.word_count.Reads as word-count
+use Rattle.arrays.proofs.halves_in.Reads as halves-in
 use Rattle.arrays.proofs.state_in.Reads as state-in
 use Rattle.arrays.proofs.lay_times.Reads as lay-times
 use Rattle.arrays.proofs.lay_words.Reads as lay-words
+use Rattle.quiet.proofs.state_quiet.Reads as state-quiet
+use Rattle.quiet.proofs.sizes_quiet.Reads as sizes-quiet
+use Rattle.quiet.proofs.count_packet.Reads as count-packet
+use Rattle.quiet.proofs.memory_size.Reads as memory-size
 use Rattle.quiet.proofs.quiet_packet.Reads as quiet-packet
+use Rattle.quiet.proofs.quiet_value.Reads as quiet-value
+use Rattle.arrival.proofs.short_packet.Reads as short-packet
 use Rattle.lines.proofs.line_start.Reads as line-start
 use Rattle.lines.proofs.line_length.Reads as line-length
 use Rattle.lines.proofs.scan_bytes.Reads as scan-bytes
@@ -63,6 +74,7 @@ use Rattle.sections.specs.Steps.{laidIn}
 use Rattle.payloads.specs.declared.Taken.{Taken}
 use Rattle.steps.specs.declared.Stepped.{Stepped}
 use Rattle.records.specs.Handing.{handed}
+use Rattle.quiet.specs.Quiet.{quietTable}
 use Rattle.outcomes.specs.Once.{OneAnswer, OneOutcome}
 use Rattle.outcomes.proofs.Alike.{both, places-2, places-3, places-4}
 
@@ -96,12 +108,16 @@ pub record NoSecondOutcomeInside : Type 0 where
   pub programmes-place-of : (κs : _) → OneAnswer (place-of.Post κs) (λ r. r)
   pub programmes-move-sections : (κs : _) → OneOutcome (move-sections.Post κs) (λ r. r) (λ s. now (s .0))
   pub payloads-take-payload : (κs : _) → OneOutcome (take-payload.Post κs) (λ r. r) (λ s. now (s .1 .0) ∷ now (s .1 .1 .1 .1 .1 .1 .1 .0) ∷ [])
+  pub checks-rooms-sound : (κs : _) → OneAnswer (rooms-sound.Post κs) (λ r. r)
   pub checks-open-refusal : (κs : _) → OneAnswer (open-refusal.Post κs) (λ r. r)
   pub checks-packet-refusal : (κs : _) → OneAnswer (packet-refusal.Post κs) (λ r. r)
   pub checks-clock-refusal : (κs : _) → OneAnswer (clock-refusal.Post κs) (λ r. r)
+  pub steps-fixed-room : (κs : _) → OneAnswer (fixed-room.Post κs) (λ r. r)
   pub steps-judge-packet : (κs : _)
       → OneOutcome (judge-packet.Post κs) (λ r. r) (λ s. now (s .1 .1 .1 .0) ∷ now (s .1 .1 .1 .1 .0) ∷ now (s .1 .1 .1 .1 .1 .0) ∷ [])
   pub engine-open-at : (κs : _) → OneOutcome (open-at.Post κs) (λ r. r) (λ s. now (s .1 .0))
+  pub engine-whole-packet-at : (κs : _)
+      → OneOutcome (whole-packet-at.Post κs) (λ r. r) (λ s. now (s .1 .1 .1 .0) ∷ now (s .1 .1 .1 .1 .0) ∷ now (s .1 .1 .1 .1 .1 .1 .0) ∷ [])
   pub engine-packet-at : (κs : _)
       → OneOutcome (packet-at.Post κs) (λ r. r) (λ s. now (s .1 .1 .1 .0) ∷ now (s .1 .1 .1 .1 .0) ∷ now (s .1 .1 .1 .1 .1 .1 .0) ∷ [])
   pub engine-clock-at : (κs : _) → OneOutcome (clock-at.Post κs) (λ r. r) (λ s. now (s .1 .1 .1 .1 .0))
@@ -109,11 +125,19 @@ pub record NoSecondOutcomeInside : Type 0 where
   pub records-hand-over : (κs : _) → OneOutcome (handPromise κs) (λ r. r) (λ s. now (s .1 .1 .0))
   pub arrays-time-count : (κs : _) → OneAnswer (time-count.Post κs) (λ r. r)
   pub arrays-word-count : (κs : _) → OneAnswer (word-count.Post κs) (λ r. r)
+  pub arrays-halves-in : (κs : _) → OneAnswer (halves-in.Post κs) (λ r. r)
   pub arrays-state-in : (κs : _) → OneAnswer (state-in.Post κs) (λ r. r)
   pub arrays-lay-times : (κs : _) → OneOutcome (lay-times.Post κs) (λ r. r) (λ s. now (s .1 .0))
   pub arrays-lay-words : (κs : _) → OneOutcome (lay-words.Post κs) (λ r. r) (λ s. now (s .1 .0))
+  pub quiet-state-quiet : (κs : _) → OneAnswer (state-quiet.Post κs) (λ r. r)
+  pub quiet-sizes-quiet : (κs : _) → OneAnswer (sizes-quiet.Post κs) (λ r. r)
+  pub quiet-count-packet : (κs : _) → OneOutcome (count-packet.Post κs) (λ r. r) (λ s. now (s .1 .0))
+  pub quiet-memory-size : (κs : _) → OneAnswer (memory-size.Post κs) (λ r. r)
   pub quiet-quiet-packet : (κs : _)
       → OneOutcome (quiet-packet.Post κs) (λ r. r) (λ s. now (s .0) ∷ now (s .1 .0) ∷ now (s .1 .1 .1 .1 .0) ∷ now (s .1 .1 .1 .1 .1 .0) ∷ [])
+  pub quiet-quiet-value : (κs : _) → OneOutcome (quiet-value.Post κs) (λ r. r) (λ s. now (s .1 .1 .1 .0))
+  pub arrival-short-packet : (κs : _)
+      → OneOutcome (short-packet.Post κs) (λ r. r) (λ s. now (s .0) ∷ now (s .1 .0) ∷ now (s .1 .1 .1 .1 .0) ∷ now (s .1 .1 .1 .1 .1 .0) ∷ [])
   pub lines-line-start : (κs : _) → OneAnswer (line-start.Post κs) (λ r. r)
   pub lines-line-length : (κs : _) → OneAnswer (line-length.Post κs) (λ r. r)
   pub lines-scan-bytes : (κs : _) → OneOutcome (scan-bytes.Post κs) (λ r. r) (λ s. now (s .1 .0))
@@ -166,14 +190,18 @@ no-second-outcome-inside =
       programmes-move-sections = λ κs a r r′ s s′ p q. (both (p .0) (q .0), both (p .1) (q .1));
       payloads-take-payload = λ κs a r r′ s s′ p q.
           (taken-alike r r′ (both (p .0) (q .0)) (both (p .2) (q .2)), places-2 (both (p .1) (q .1)) (both (p .3) (q .3)));
+      checks-rooms-sound = λ κs a r r′ s s′ p q. both p q;
       checks-open-refusal = λ κs a r r′ s s′ p q. both p q;
       checks-packet-refusal = λ κs a r r′ s s′ p q. both p q;
       checks-clock-refusal = λ κs a r r′ s s′ p q. both p q;
+      steps-fixed-room = λ κs a r r′ s s′ p q. both p q;
       steps-judge-packet = λ κs a r r′ s s′ p q. (
         stepped-alike r r′ (both (p .core) (q .core)) (both (p .next) (q .next)),
         places-3 (both (p .counters) (q .counters)) (both (p .memory) (q .memory)) (both (p .laid) (q .laid)),
       );
       engine-open-at = λ κs a r r′ s s′ p q. (both (p .0) (q .0), both (p .1) (q .1));
+      engine-whole-packet-at = λ κs a r r′ s s′ p q.
+          (both (p .0) (q .0), places-3 (both (p .1) (q .1)) (both (p .2) (q .2)) (both (p .3 .laid) (q .3 .laid)));
       engine-packet-at = λ κs a r r′ s s′ p q.
           (both (p .0) (q .0), places-3 (both (p .1) (q .1)) (both (p .2) (q .2)) (both (p .3 .laid) (q .3 .laid)));
       engine-clock-at = λ κs a r r′ s s′ p q. (both (p .0) (q .0), both (p .1 .laid) (q .1 .laid));
@@ -181,10 +209,23 @@ no-second-outcome-inside =
       records-hand-over = λ κs a r r′ s s′ p q. (both (p .0) (q .0), both (p .1) (q .1));
       arrays-time-count = λ κs a r r′ s s′ p q. both (p .0) (q .0);
       arrays-word-count = λ κs a r r′ s s′ p q. both (p .0) (q .0);
+      arrays-halves-in = λ κs a r r′ s s′ p q. both p q;
       arrays-state-in = λ κs a r r′ s s′ p q. both p q;
       arrays-lay-times = λ κs a r r′ s s′ p q. (refl, both p q);
       arrays-lay-words = λ κs a r r′ s s′ p q. (refl, both p q);
+      quiet-state-quiet = λ κs a r r′ s s′ p q. both p q;
+      quiet-sizes-quiet = λ κs a r r′ s s′ p q. both p q;
+      quiet-count-packet = λ κs a r r′ s s′ p q. (refl, both p q);
+      quiet-memory-size = λ κs a r r′ s s′ p q. both (p .0) (q .0);
       quiet-quiet-packet = λ κs a r r′ s s′ p q.
+          (both (p .0) (q .0), places-4 (both (p .1) (q .1)) (both (p .2) (q .2)) (both (p .3) (q .3)) (both (p .4) (q .4)));
+      quiet-quiet-value = λ κs a r r′ s s′ p q. (
+        both (p .0) (q .0),
+        p .1
+            ∙ ap (λ (quiet : Bool). quietTable quiet (now (a .1 .1 .0)) (now (a .1 .1 .1 .0))) (both (p .0) (q .0))
+            ∙ sym (q .1),
+      );
+      arrival-short-packet = λ κs a r r′ s s′ p q.
           (both (p .0) (q .0), places-4 (both (p .1) (q .1)) (both (p .2) (q .2)) (both (p .3) (q .3)) (both (p .4) (q .4)));
       lines-line-start = λ κs a r r′ s s′ p q. both p q;
       lines-line-length = λ κs a r r′ s s′ p q. both p q;

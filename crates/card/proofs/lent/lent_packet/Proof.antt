@@ -14,8 +14,8 @@ word-count-requires c κs = search needs
 state-in-requires : tie.Need-state-in-requires
 state-in-requires c κs = search needs
 
-packet-at-requires : tie.Need-packet-at-requires
-packet-at-requires c κs = search needs
+whole-packet-at-requires : tie.Need-whole-packet-at-requires
+whole-packet-at-requires c κs = search needs
 
 settle-requires : tie.Need-settle-requires
 settle-requires c κs = search needs
@@ -26,7 +26,7 @@ same-length c = search needs
 returns : tie.Need-returns
 returns c =
     let state = c .before .before .before .before .before .before .before .before .before .state-in .ensures in
-    let call = c .before .before .before .before .before .packet-at .ensures in
+    let call = c .before .before .before .before .before .whole-packet-at .ensures in
     let answer = rw state at (call .0) in
     (ap replyOf answer, c .settle .ensures .0 ∙ rw answer, c .settle .ensures .1 ∙ rw answer, rw state at (call .1), rw state at (call .2), rw state at (call .3))
 
@@ -37,7 +37,7 @@ lent-packet-spec =
     time-count-requires
     word-count-requires
     state-in-requires
-    packet-at-requires
+    whole-packet-at-requires
     settle-requires
     same-length
     returns)

@@ -1,5 +1,5 @@
--- `card::songpigeon_packet` meets its contract: a walk of its MIR. First `quiet_packet`, to which each `&mut` is lent again (`Again.antt`): where it has judged the whole call, the function returns. A local array of numbers is lent to `lent_packet` as a `&mut`, comes back, and is lent to `hand_over` as a `&` (`Scratch.antt`), beside the list of events, which is passed on for good.
--- All that the proof knows of `quiet_packet` and `lent_packet` and `hand_over` is that each meets its contract.
+-- `card::songpigeon_packet` meets its contract: a walk of its MIR. First `short_packet`, to which each `&mut` is lent again (`Again.antt`): where it has judged the whole call, the function returns. A local array of numbers is lent to `lent_packet` as a `&mut`, comes back, and is lent to `hand_over` as a `&` (`Scratch.antt`), beside the list of events, which is passed on for good.
+-- All that the proof knows of `short_packet` and `lent_packet` and `hand_over` is that each meets its contract.
 -- Assumes nothing.
 use mathlib.Core.Path.{_≡_, refl, sym, _∙_, ap, subst}
 use Prim.Native.Nat.{ℕ, _*_, _<_, _≤_, _^_}
@@ -59,8 +59,9 @@ use Rattle.records.proofs.ReadBack.{blank, few-enough, handed-eventsLaid}
 use Rattle.records.proofs.Rooms.{packetCall-room}
 use Rattle.arrays.specs.Lent.{stateIn}
 use Rattle.arrays.specs.Replies.{replyOf, timesAfter, wordsAfter}
-use Rattle.quiet.specs.Quiet.{quietIn, quietTimes, quietTable, firstOf}
-use Rattle.quiet.proofs.Lents.{quiet-done, quiet-wait}
+use Rattle.quiet.specs.Quiet.{firstOf}
+use Rattle.arrival.specs.Arrival.{shortIn, leftTimes, leftWords, leftTable, leftMemory}
+use Rattle.arrival.proofs.Lents.{short-done, short-wait}
 use Rattle.events.specs.declared.Event.{Event}
 use Rattle.arrays.specs.declared.Reply.{Reply}
 use Rattle.quiet.specs.declared.First.{First}
@@ -71,10 +72,10 @@ use Rattle.arrays.proofs.Reply as MReply
 use Rattle.arrays.proofs.Reply.Laws as MReply′
 use Rattle.quiet.proofs.First as MFirst
 use Rattle.quiet.proofs.First.Laws as MFirst′
-use Rattle.quiet.proofs.quiet_packet as quiet
-use Rattle.quiet.proofs.quiet_packet.Symbol as quiet-def
-use Rattle.quiet.proofs.quiet_packet.Symbol.{name as #quiet}
-use Rattle.quiet.proofs.quiet_packet.Met as quiet-thm
+use Rattle.arrival.proofs.short_packet as short
+use Rattle.arrival.proofs.short_packet.Symbol as short-def
+use Rattle.arrival.proofs.short_packet.Symbol.{name as #short}
+use Rattle.arrival.proofs.short_packet.Met as short-thm
 use Rattle.card.proofs.lent.lent_packet as core
 use Rattle.card.proofs.lent.lent_packet.Symbol as core-def
 use Rattle.card.proofs.lent.lent_packet.Symbol.{name as #core}
@@ -117,8 +118,8 @@ env-of 𝓤 H (l ∷ ls) [] = []
 env-of 𝓤 H (local τ h ∷ ls) (b ∷ bs) = (τ, b) ∷ env-of 𝓤 H ls bs
 
 module _ {M : Type 1} (𝓤 : URA M) (H : Heap 𝓤) (A : Atoms 𝓤) (mem : Memory → SProp 𝓤) (run : Routine → Fun 𝓤) where
-  abbrev Quiet : Contract 𝓤
-  Quiet = tripleOf 𝓤 H A quiet.signature (quiet.spec 𝓤 H A mem run)
+  abbrev Short : Contract 𝓤
+  Short = tripleOf 𝓤 H A short.signature (short.spec 𝓤 H A mem run)
 
   abbrev Core : Contract 𝓤
   Core = tripleOf 𝓤 H A core.signature (core.spec 𝓤 H A mem run)
@@ -213,39 +214,39 @@ module _ {M : Type 1} (𝓤 : URA M) (H : Heap 𝓤) (A : Atoms 𝓤) (W : Given
       suffices ! _ (ends-at 𝓤 H A f.ended stayed (f.clauses 𝓤 H A mem run) W (((κ₀, (κ₁, (κ₂, (κ₃, (κ₄, (κ₅, tt)))))), (q₀, (q₁, (q₂, (q₃, (q₄, (q₅, tt)))))), tt, a, vals), tt) (LL.val MReply.the-type MReply′.the-laws (r)) r (z-times, (z-words, (tt, (tt, (z-counters, (z-memory, (zs, tt))))))) (tt, (tt, (tt, (tt, (l-counters, (tt, (l, tt)))))))) $ says ! (e, e-times, e-words, e-counters, e-memory, e′ ∙ ap (λ (d : Reply). handed nums (d .n) ys) e ∙ handed-eventsLaid laid-events fits few ys) $ frame ! $
       nothing ! $ move ! (5 ∷ 0 ∷ []) $ fjoin ! $ move ! (4 ∷ 0 ∷ []) $ fjoin ! $ move ! (3 ∷ 0 ∷ []) $ fjoin ! $ nothing ! $ fjoin ! $ nothing ! $ fjoin ! $ move ! (2 ∷ 0 ∷ []) $ fjoin ! $ move ! (1 ∷ 0 ∷ []) $ fjoin ! $ frame ! $ owned ! O (Is O) (LL.makes MReply.the-type MReply′.the-plain 𝓤 H A) r _ is $ done !
 
-  -- ---- the quiet path: what `quiet_packet` answers, its call, and the exit where it has judged the whole call
+  -- ---- the short ways: what `short_packet` answers, its call, and the exit where it has judged the whole call
   abbrev qout : First
-  qout = firstOf (quietIn (times .now) (words .now) time (packet .now) (counters .now) (length ys))
+  qout = firstOf (shortIn (times .now) (words .now) (memory .now) time (packet .now) (counters .now) (length ys))
 
-  abbrev times-quiet : List ℕ
-  times-quiet = quietTimes (quietIn (times .now) (words .now) time (packet .now) (counters .now) (length ys)) time (times .now)
+  abbrev times-short : List ℕ
+  times-short = leftTimes (shortIn (times .now) (words .now) (memory .now) time (packet .now) (counters .now) (length ys)) (packetCall (stateIn (times .now) (words .now)) time (packet .now) (counters .now) (memory .now) (length ys)) (times .now)
 
-  abbrev words-quiet : List ℕ
-  words-quiet = words .now
+  abbrev words-short : List ℕ
+  words-short = leftWords (shortIn (times .now) (words .now) (memory .now) time (packet .now) (counters .now) (length ys)) (packetCall (stateIn (times .now) (words .now)) time (packet .now) (counters .now) (memory .now) (length ys)) (words .now)
 
-  abbrev counters-quiet : List ℕ
-  counters-quiet = quietTable (quietIn (times .now) (words .now) time (packet .now) (counters .now) (length ys)) (packet .now) (counters .now)
+  abbrev counters-short : List ℕ
+  counters-short = leftTable (shortIn (times .now) (words .now) (memory .now) time (packet .now) (counters .now) (length ys)) (packetCall (stateIn (times .now) (words .now)) time (packet .now) (counters .now) (memory .now) (length ys)) (counters .now)
 
-  abbrev memory-quiet : List ℕ
-  memory-quiet = memory .now
+  abbrev memory-short : List ℕ
+  memory-short = leftMemory (shortIn (times .now) (words .now) (memory .now) time (packet .now) (counters .now) (length ys)) (packetCall (stateIn (times .now) (words .now)) time (packet .now) (counters .now) (memory .now) (length ys)) (memory .now)
 
-  abbrev QuietArgs : Type 0
-  QuietArgs = RefT (List ℕ) × (RefT (List ℕ) × (ℕ × (RefT (List ℕ) × (RefT (List ℕ) × (RefT (List ℕ) × (ℕ × Unit {0}))))))
+  abbrev ShortArgs : Type 0
+  ShortArgs = RefT (List ℕ) × (RefT (List ℕ) × (ℕ × (RefT (List ℕ) × (RefT (List ℕ) × (RefT (List ℕ) × (ℕ × Unit {0}))))))
 
-  abbrev quiet-args : GName → GName → GName → GName → QuietArgs
-  quiet-args δ-times δ-words δ-counters δ-memory = ((record { ptr = (times .ptr .0, times .ptr .1); name = δ-times; now = times .now }), ((record { ptr = (words .ptr .0, words .ptr .1); name = δ-words; now = words .now }), (time, (packet, ((record { ptr = (counters .ptr .0, counters .ptr .1); name = δ-counters; now = counters .now }), ((record { ptr = (memory .ptr .0, memory .ptr .1); name = δ-memory; now = memory .now }), (length ys, tt)))))))
+  abbrev short-args : GName → GName → GName → GName → ShortArgs
+  short-args δ-times δ-words δ-counters δ-memory = ((record { ptr = (times .ptr .0, times .ptr .1); name = δ-times; now = times .now }), ((record { ptr = (words .ptr .0, words .ptr .1); name = δ-words; now = words .now }), (time, (packet, ((record { ptr = (counters .ptr .0, counters .ptr .1); name = δ-counters; now = counters .now }), ((record { ptr = (memory .ptr .0, memory .ptr .1); name = δ-memory; now = memory .now }), (length ys, tt)))))))
 
-  abbrev to-quiet : ℕ → ℕ → ℕ → ℕ → GName → GName → GName → GName → Quiet 𝓤 H A mem run .Ghost
-  to-quiet ν-times ν-words ν-counters ν-memory δ-times δ-words δ-counters δ-memory = (((ν-times ∷ [], (ν-words ∷ [], (κ₂, (ν-counters ∷ [], (ν-memory ∷ [], tt))))), (fullShare, (fullShare, (q₂, (fullShare, (fullShare, tt))))), tt, quiet-args δ-times δ-words δ-counters δ-memory, ((vptr (times .ptr .0) (times .ptr .1)) ∷ [], ((vptr (words .ptr .0) (words .ptr .1)) ∷ [], ((vint w64 time) ∷ [], ((sliceVal (packet .ptr) (length (packet .now))) ∷ [], ((sliceVal (counters .ptr) (length (counters .now))) ∷ [], ((vptr (memory .ptr .0) (memory .ptr .1)) ∷ [], (vint w64 (length ys) ∷ [], tt)))))))), tt)
+  abbrev to-short : ℕ → ℕ → ℕ → ℕ → GName → GName → GName → GName → Short 𝓤 H A mem run .Ghost
+  to-short ν-times ν-words ν-counters ν-memory δ-times δ-words δ-counters δ-memory = (((ν-times ∷ [], (ν-words ∷ [], (κ₂, (ν-counters ∷ [], (ν-memory ∷ [], tt))))), (fullShare, (fullShare, (q₂, (fullShare, (fullShare, tt))))), tt, short-args δ-times δ-words δ-counters δ-memory, ((vptr (times .ptr .0) (times .ptr .1)) ∷ [], ((vptr (words .ptr .0) (words .ptr .1)) ∷ [], ((vint w64 time) ∷ [], ((sliceVal (packet .ptr) (length (packet .now))) ∷ [], ((sliceVal (counters .ptr) (length (counters .now))) ∷ [], ((vptr (memory .ptr .0) (memory .ptr .1)) ∷ [], (vint w64 (length ys) ∷ [], tt)))))))), tt)
 
-  goes-quiet : (ν-times : ℕ) (ν-words : ℕ) (ν-counters : ℕ) (ν-memory : ℕ) (δ-times : GName) (δ-words : GName) (δ-counters : GName) (δ-memory : GName) → ent 𝓤 (⋆ 𝓤 H A ((‵ (flft (ν-times ∷ []) fullShare) ⊛ ‵ (flft (ν-words ∷ []) fullShare) ⊛ ‵ (flft κ₂ q₂) ⊛ ‵ (flft (ν-counters ∷ []) fullShare) ⊛ ‵ (flft (ν-memory ∷ []) fullShare) ⊛ ‵ ftrue) ∷ ‵ (MutRef (named 0) (ν-times ∷ []) (Array u64 22) .own (record { ptr = (times .ptr .0, times .ptr .1); name = δ-times; now = times .now }) ((vptr (times .ptr .0) (times .ptr .1)) ∷ [])) ∷ ‵ (MutRef (named 1) (ν-words ∷ []) (Array u16 56) .own (record { ptr = (words .ptr .0, words .ptr .1); name = δ-words; now = words .now }) ((vptr (words .ptr .0) (words .ptr .1)) ∷ [])) ∷ ‵ (ShrSlice (named 2) κ₂ u8 .own packet ((sliceVal (packet .ptr) (length (packet .now))) ∷ [])) ∷ ‵ (MutSlice (named 3) (ν-counters ∷ []) u8 .own (record { ptr = (counters .ptr .0, counters .ptr .1); name = δ-counters; now = counters .now }) ((sliceVal (counters .ptr) (length (counters .now))) ∷ [])) ∷ ‵ (MutRef (named 4) (ν-memory ∷ []) (Array u8 24576) .own (record { ptr = (memory .ptr .0, memory .ptr .1); name = δ-memory; now = memory .now }) ((vptr (memory .ptr .0) (memory .ptr .1)) ∷ [])) ∷ [])) (Quiet 𝓤 H A mem run .pre (to-quiet ν-times ν-words ν-counters ν-memory δ-times δ-words δ-counters δ-memory))
-  goes-quiet ν-times ν-words ν-counters ν-memory δ-times δ-words δ-counters δ-memory =
+  goes-short : (ν-times : ℕ) (ν-words : ℕ) (ν-counters : ℕ) (ν-memory : ℕ) (δ-times : GName) (δ-words : GName) (δ-counters : GName) (δ-memory : GName) → ent 𝓤 (⋆ 𝓤 H A ((‵ (flft (ν-times ∷ []) fullShare) ⊛ ‵ (flft (ν-words ∷ []) fullShare) ⊛ ‵ (flft κ₂ q₂) ⊛ ‵ (flft (ν-counters ∷ []) fullShare) ⊛ ‵ (flft (ν-memory ∷ []) fullShare) ⊛ ‵ ftrue) ∷ ‵ (MutRef (named 0) (ν-times ∷ []) (Array u64 22) .own (record { ptr = (times .ptr .0, times .ptr .1); name = δ-times; now = times .now }) ((vptr (times .ptr .0) (times .ptr .1)) ∷ [])) ∷ ‵ (MutRef (named 1) (ν-words ∷ []) (Array u16 56) .own (record { ptr = (words .ptr .0, words .ptr .1); name = δ-words; now = words .now }) ((vptr (words .ptr .0) (words .ptr .1)) ∷ [])) ∷ ‵ (ShrSlice (named 2) κ₂ u8 .own packet ((sliceVal (packet .ptr) (length (packet .now))) ∷ [])) ∷ ‵ (MutSlice (named 3) (ν-counters ∷ []) u8 .own (record { ptr = (counters .ptr .0, counters .ptr .1); name = δ-counters; now = counters .now }) ((sliceVal (counters .ptr) (length (counters .now))) ∷ [])) ∷ ‵ (MutRef (named 4) (ν-memory ∷ []) (Array u8 24576) .own (record { ptr = (memory .ptr .0, memory .ptr .1); name = δ-memory; now = memory .now }) ((vptr (memory .ptr .0) (memory .ptr .1)) ∷ [])) ∷ [])) (Short 𝓤 H A mem run .pre (to-short ν-times ν-words ν-counters ν-memory δ-times δ-words δ-counters δ-memory))
+  goes-short ν-times ν-words ν-counters ν-memory δ-times δ-words δ-counters δ-memory =
       qed W ((‵ (flft (ν-times ∷ []) fullShare) ⊛ ‵ (flft (ν-words ∷ []) fullShare) ⊛ ‵ (flft κ₂ q₂) ⊛ ‵ (flft (ν-counters ∷ []) fullShare) ⊛ ‵ (flft (ν-memory ∷ []) fullShare) ⊛ ‵ ftrue) ∷ ‵ (MutRef (named 0) (ν-times ∷ []) (Array u64 22) .own (record { ptr = (times .ptr .0, times .ptr .1); name = δ-times; now = times .now }) ((vptr (times .ptr .0) (times .ptr .1)) ∷ [])) ∷ ‵ (MutRef (named 1) (ν-words ∷ []) (Array u16 56) .own (record { ptr = (words .ptr .0, words .ptr .1); name = δ-words; now = words .now }) ((vptr (words .ptr .0) (words .ptr .1)) ∷ [])) ∷ ‵ (ShrSlice (named 2) κ₂ u8 .own packet ((sliceVal (packet .ptr) (length (packet .now))) ∷ [])) ∷ ‵ (MutSlice (named 3) (ν-counters ∷ []) u8 .own (record { ptr = (counters .ptr .0, counters .ptr .1); name = δ-counters; now = counters .now }) ((sliceVal (counters .ptr) (length (counters .now))) ∷ [])) ∷ ‵ (MutRef (named 4) (ν-memory ∷ []) (Array u8 24576) .own (record { ptr = (memory .ptr .0, memory .ptr .1); name = δ-memory; now = memory .now }) ((vptr (memory .ptr .0) (memory .ptr .1)) ∷ [])) ∷ []) ∵
       nothing ! $ owned ! usize (Is usize) (uint-makes 𝓤 H A W w64) (length ys) _ (refl, fitting .0) $ fjoin ! $ move ! (6 ∷ 0 ∷ []) $ fjoin ! $ move ! (5 ∷ 0 ∷ []) $ fjoin ! $ move ! (4 ∷ 0 ∷ []) $ fjoin ! $ owned ! u64 (Is u64) (uint-makes 𝓤 H A W w64) time _ (refl, time-fits) $ fjoin ! $ move ! (3 ∷ 0 ∷ []) $ fjoin ! $ move ! (2 ∷ 0 ∷ []) $ fjoin ! $ move ! (1 ∷ 0 ∷ []) $ join ! $ frame ! $ done !
 
-  leaves : (r : First) (z-times : List ℕ) (z-words : List ℕ) (z-counters : List ℕ) (z-memory : List ℕ) → Is O (r .answer) ((LL.val MReply.the-type MReply′.the-laws (r .answer)) ∷ []) → r .done ≡ true → r ≡ qout → z-times ≡ times-quiet → z-words ≡ words-quiet → z-counters ≡ counters-quiet → z-memory ≡ memory-quiet → length z-counters ≡ length (counters .now) → ent 𝓤 (⋆ 𝓤 H A ((‵ (flft κ₀ q₀) ⊛ ‵ (flft κ₁ q₁) ⊛ ‵ (flft κ₂ q₂) ⊛ ‵ (flft κ₃ q₃) ⊛ ‵ (flft κ₄ q₄) ⊛ ‵ (flft κ₅ q₅) ⊛ ‵ ftrue) ∷ ‵ (MutRef (named 0) κ₀ (Array u64 22) .own (record { ptr = (times .ptr .0, times .ptr .1); name = times .name; now = z-times }) ((vptr (times .ptr .0) (times .ptr .1)) ∷ [])) ∷ ‵ (MutRef (named 1) κ₁ (Array u16 56) .own (record { ptr = (words .ptr .0, words .ptr .1); name = words .name; now = z-words }) ((vptr (words .ptr .0) (words .ptr .1)) ∷ [])) ∷ ‵ (MutSlice (named 3) κ₃ u8 .own (record { ptr = (counters .ptr .0, counters .ptr .1); name = counters .name; now = z-counters }) ((sliceVal (counters .ptr) (length (counters .now))) ∷ [])) ∷ ‵ (MutRef (named 4) κ₄ (Array u8 24576) .own (record { ptr = (memory .ptr .0, memory .ptr .1); name = memory .name; now = z-memory }) ((vptr (memory .ptr .0) (memory .ptr .1)) ∷ [])) ∷ ‵ (MutSlice (named 5) κ₅ R .own yv (s ∷ [])) ∷ [])) (Post (LL.val MReply.the-type MReply′.the-laws (r .answer)))
+  leaves : (r : First) (z-times : List ℕ) (z-words : List ℕ) (z-counters : List ℕ) (z-memory : List ℕ) → Is O (r .answer) ((LL.val MReply.the-type MReply′.the-laws (r .answer)) ∷ []) → r .done ≡ true → r ≡ qout → z-times ≡ times-short → z-words ≡ words-short → z-counters ≡ counters-short → z-memory ≡ memory-short → length z-counters ≡ length (counters .now) → ent 𝓤 (⋆ 𝓤 H A ((‵ (flft κ₀ q₀) ⊛ ‵ (flft κ₁ q₁) ⊛ ‵ (flft κ₂ q₂) ⊛ ‵ (flft κ₃ q₃) ⊛ ‵ (flft κ₄ q₄) ⊛ ‵ (flft κ₅ q₅) ⊛ ‵ ftrue) ∷ ‵ (MutRef (named 0) κ₀ (Array u64 22) .own (record { ptr = (times .ptr .0, times .ptr .1); name = times .name; now = z-times }) ((vptr (times .ptr .0) (times .ptr .1)) ∷ [])) ∷ ‵ (MutRef (named 1) κ₁ (Array u16 56) .own (record { ptr = (words .ptr .0, words .ptr .1); name = words .name; now = z-words }) ((vptr (words .ptr .0) (words .ptr .1)) ∷ [])) ∷ ‵ (MutSlice (named 3) κ₃ u8 .own (record { ptr = (counters .ptr .0, counters .ptr .1); name = counters .name; now = z-counters }) ((sliceVal (counters .ptr) (length (counters .now))) ∷ [])) ∷ ‵ (MutRef (named 4) κ₄ (Array u8 24576) .own (record { ptr = (memory .ptr .0, memory .ptr .1); name = memory .name; now = z-memory }) ((vptr (memory .ptr .0) (memory .ptr .1)) ∷ [])) ∷ ‵ (MutSlice (named 5) κ₅ R .own yv (s ∷ [])) ∷ [])) (Post (LL.val MReply.the-type MReply′.the-laws (r .answer)))
   leaves r z-times z-words z-counters z-memory is t e e-times e-words e-counters e-memory l-counters =
-      let told = (quiet-done (times .now) (words .now) time (packet .now) (counters .now) (memory .now) (length ys)) (subst (λ (d : First). d .done ≡ true) e t) in
+      let told = (short-done (times .now) (words .now) (memory .now) time (packet .now) (counters .now) (length ys)) (subst (λ (d : First). d .done ≡ true) e t) in
       qed W ((‵ (flft κ₀ q₀) ⊛ ‵ (flft κ₁ q₁) ⊛ ‵ (flft κ₂ q₂) ⊛ ‵ (flft κ₃ q₃) ⊛ ‵ (flft κ₄ q₄) ⊛ ‵ (flft κ₅ q₅) ⊛ ‵ ftrue) ∷ ‵ (MutRef (named 0) κ₀ (Array u64 22) .own (record { ptr = (times .ptr .0, times .ptr .1); name = times .name; now = z-times }) ((vptr (times .ptr .0) (times .ptr .1)) ∷ [])) ∷ ‵ (MutRef (named 1) κ₁ (Array u16 56) .own (record { ptr = (words .ptr .0, words .ptr .1); name = words .name; now = z-words }) ((vptr (words .ptr .0) (words .ptr .1)) ∷ [])) ∷ ‵ (MutSlice (named 3) κ₃ u8 .own (record { ptr = (counters .ptr .0, counters .ptr .1); name = counters .name; now = z-counters }) ((sliceVal (counters .ptr) (length (counters .now))) ∷ [])) ∷ ‵ (MutRef (named 4) κ₄ (Array u8 24576) .own (record { ptr = (memory .ptr .0, memory .ptr .1); name = memory .name; now = z-memory }) ((vptr (memory .ptr .0) (memory .ptr .1)) ∷ [])) ∷ ‵ (MutSlice (named 5) κ₅ R .own yv (s ∷ [])) ∷ []) ∵
       suffices ! _ (ends-at 𝓤 H A f.ended stayed (f.clauses 𝓤 H A mem run) W (((κ₀, (κ₁, (κ₂, (κ₃, (κ₄, (κ₅, tt)))))), (q₀, (q₁, (q₂, (q₃, (q₄, (q₅, tt)))))), tt, a, vals), tt) (LL.val MReply.the-type MReply′.the-laws (r .answer)) (r .answer) (z-times, (z-words, (tt, (tt, (z-counters, (z-memory, (ys, tt))))))) (tt, (tt, (tt, (tt, (l-counters, (tt, (refl, tt)))))))) $ says ! (ap (λ (d : First). d .answer) e ∙ told .0, e-times ∙ told .1, e-words ∙ told .2, e-counters ∙ told .3, e-memory ∙ told .4, sym (ap (λ (es : List Event). handedOver es ys) (told .5))) $ frame ! $
       fsplit3 ! $ drop ! $ use1 W (‵ (fres (times .name) ((Array u64 22) .coded .code z-times))) (W .names .obs-res (times .name) ((Array u64 22) .coded .code z-times)) $ move ! (1 ∷ []) $ drop ! $ move ! (1 ∷ 2 ∷ 3 ∷ 4 ∷ 0 ∷ []) $ fsplit3 ! $ drop ! $ use1 W (‵ (fres (words .name) ((Array u16 56) .coded .code z-words))) (W .names .obs-res (words .name) ((Array u16 56) .coded .code z-words)) $ move ! (1 ∷ []) $ drop ! $ move ! (1 ∷ 2 ∷ 3 ∷ 4 ∷ 0 ∷ []) $ fsplit ! $ drop ! $ fsplit ! $ use1 W (‵ (fres (counters .name) (codedHoleys u8 .code (heres u8 z-counters)))) (W .names .obs-res (counters .name) (codedHoleys u8 .code (heres u8 z-counters))) $ use1 W (‵ (finally u8 (counters .name) z-counters)) (res-finally 𝓤 H A W (named 3) κ₃ u8 (counters .name) z-counters) $ move ! (1 ∷ []) $ drop ! $ move ! (1 ∷ 2 ∷ 3 ∷ 4 ∷ 0 ∷ []) $ fsplit3 ! $ drop ! $ use1 W (‵ (fres (memory .name) ((Array u8 24576) .coded .code z-memory))) (W .names .obs-res (memory .name) ((Array u8 24576) .coded .code z-memory)) $ move ! (1 ∷ []) $ drop ! $ move ! (1 ∷ 2 ∷ 3 ∷ 4 ∷ 0 ∷ []) $ fsplit ! $ drop ! $ fsplit ! $ use1 W (‵ (fres γ (codedHoleys R .code (heres R ys)))) (W .names .obs-res γ (codedHoleys R .code (heres R ys))) $ use1 W (‵ (finally R γ ys)) (res-finally 𝓤 H A W (named 5) κ₅ R γ ys) $ move ! (1 ∷ []) $ drop ! $ move ! (1 ∷ 2 ∷ 3 ∷ 4 ∷ 0 ∷ []) $ nothing ! $ move ! (5 ∷ 0 ∷ []) $ fjoin ! $ move ! (4 ∷ 0 ∷ []) $ fjoin ! $ move ! (3 ∷ 0 ∷ []) $ fjoin ! $ nothing ! $ fjoin ! $ nothing ! $ fjoin ! $ move ! (2 ∷ 0 ∷ []) $ fjoin ! $ move ! (1 ∷ 0 ∷ []) $ fjoin ! $ frame ! $ owned ! O (Is O) (LL.makes MReply.the-type MReply′.the-plain 𝓤 H A) (r .answer) _ is $ done !
@@ -258,7 +259,7 @@ module _ {M : Type 1} (𝓤 : URA M) (H : Heap 𝓤) (A : Atoms 𝓤) (W : Given
   abbrev word : Ty
   word = tyInt w64
 
-  module _ (C : Calls 𝓤 H) (Λ : Loops 𝓤 H) (fm : FmC 𝓤 H (W .laws) C) (known-quiet : Triple 𝓤 (C #quiet) (Quiet 𝓤 H A mem run)) (known-core : Triple 𝓤 (C #core) (Core 𝓤 H A mem run)) (known-hand : Triple 𝓤 (C #hand) (Hand 𝓤 H A mem run)) where
+  module _ (C : Calls 𝓤 H) (Λ : Loops 𝓤 H) (fm : FmC 𝓤 H (W .laws) C) (known-short : Triple 𝓤 (C #short) (Short 𝓤 H A mem run)) (known-core : Triple 𝓤 (C #core) (Core 𝓤 H A mem run)) (known-hand : Triple 𝓤 (C #hand) (Hand 𝓤 H A mem run)) where
     walk : ent 𝓤 (onEntry 𝓤 H A f.signature (κ₀, (κ₁, (κ₂, (κ₃, (κ₄, (κ₅, tt)))))) (q₀, (q₁, (q₂, (q₃, (q₄, (q₅, tt)))))) a vals) (WpFn 𝓤 H C Λ code.function ((vptr (times .ptr .0) (times .ptr .1)) ∷ (vptr (words .ptr .0) (words .ptr .1)) ∷ (vint w64 time) ∷ (sliceVal (packet .ptr) (length (packet .now))) ∷ (sliceVal (counters .ptr) (length (counters .now))) ∷ (vptr (memory .ptr .0) (memory .ptr .1)) ∷ s ∷ []) Post)
     walk =
         qed W ((‵ (flft κ₀ q₀) ⊛ ‵ (flft κ₁ q₁) ⊛ ‵ (flft κ₂ q₂) ⊛ ‵ (flft κ₃ q₃) ⊛ ‵ (flft κ₄ q₄) ⊛ ‵ (flft κ₅ q₅) ⊛ ‵ ftrue) ∷ ‵ (owns (MutRef (named 0) κ₀ (Array u64 22) ∷ MutRef (named 1) κ₁ (Array u16 56) ∷ u64 ∷ ShrSlice (named 2) κ₂ u8 ∷ MutSlice (named 3) κ₃ u8 ∷ MutRef (named 4) κ₄ (Array u8 24576) ∷ MutSlice (named 5) κ₅ R ∷ []) a vals) ∷ []) ∵ enter ! C Λ code.function ((vptr (times .ptr .0) (times .ptr .1)) ∷ (vptr (words .ptr .0) (words .ptr .1)) ∷ (vint w64 time) ∷ (sliceVal (packet .ptr) (length (packet .now))) ∷ (sliceVal (counters .ptr) (length (counters .now))) ∷ (vptr (memory .ptr .0) (memory .ptr .1)) ∷ s ∷ []) _ $
@@ -281,11 +282,11 @@ module _ {M : Type 1} (𝓤 : URA M) (H : Heap 𝓤) (A : Atoms 𝓤) (W : Given
         move ! (15 ∷ 11 ∷ []) $ use2 W (later (some (λ (δ : GName). ‵ (MutSlice (named 3) (ν-counters ∷ []) u8 .own (record { ptr = (counters .ptr .0, counters .ptr .1); name = δ; now = counters .now }) ((sliceVal (counters .ptr) (length (counters .now))) ∷ [])) ⊛ ‵ (again.LentAgain u8 κ₃ (ν-counters ∷ []) q₃ (counters .name) (counters .ptr .0) (counters .ptr .1) δ (counters .now))))) (again.lends-again u8 κ₃ (ν-counters ∷ []) q₃ (counters .name) (counters .ptr .0) (counters .ptr .1) 𝓤 H A W (named 3) (named 3) (counters .now)) $ await ! tt $ pick ! (λ δ-counters. split ! $
         lft-new ! tt (λ ν-memory.
         move ! (16 ∷ 13 ∷ []) $ use2 W (later (some (λ (δ : GName). ‵ (MutRef (named 4) (ν-memory ∷ []) (Array u8 24576) .own (record { ptr = (memory .ptr .0, memory .ptr .1); name = δ; now = memory .now }) ((vptr (memory .ptr .0) (memory .ptr .1)) ∷ [])) ⊛ ‵ (lend.LentAgain (Array u8 24576) κ₄ (ν-memory ∷ []) q₄ (memory .name) (memory .ptr .0) (memory .ptr .1) δ (memory .now))))) (lend.lends-again 𝓤 H A W (Array u8 24576) (named 4) κ₄ (ν-memory ∷ []) q₄ (memory .name) (memory .ptr .0) (memory .ptr .1) (named 4) (memory .now)) $ await ! tt $ pick ! (λ δ-memory. split ! $
-        nothing ! $ move ! (3 ∷ 0 ∷ []) $ join ! $ move ! (5 ∷ 0 ∷ []) $ join ! $ move ! (14 ∷ 0 ∷ []) $ join ! $ move ! (9 ∷ 0 ∷ []) $ join ! $ move ! (11 ∷ 0 ∷ []) $ join ! $ move ! (0 ∷ 9 ∷ 7 ∷ 5 ∷ 3 ∷ 1 ∷ []) $ group ! 6 $ use1 W (raw (Quiet 𝓤 H A mem run .pre (to-quiet ν-times ν-words ν-counters ν-memory δ-times δ-words δ-counters δ-memory))) (goes-quiet ν-times ν-words ν-counters ν-memory δ-times δ-words δ-counters δ-memory) $
-        calls-at ! fm (Quiet 𝓤 H A mem run) known-quiet (to-quiet ν-times ν-words ν-counters ν-memory δ-times δ-words δ-counters δ-memory) (and-then ! (load ! (from ! (stop !)) (look ! 40 refl)) (and-then ! (load ! (from ! (stop !)) (look ! 38 refl)) (and-then ! (load ! (from ! (stop !)) (look ! 60 refl)) (and-then ! (load ! (from ! (stop !)) (look ! 58 refl)) (and-then ! (load ! (from ! (stop !)) (look ! 34 refl)) (and-then ! (load ! (from ! (stop !)) (look ! 32 refl)) (and-then ! (load ! (from ! (stop !)) (look ! 50 refl)) (no-more !)))))))) (λ w₁.
-        use1 W (later (some (λ (r : First). ((‵ (flft (ν-times ∷ []) fullShare) ⊛ ‵ (flft (ν-words ∷ []) fullShare) ⊛ ‵ (flft κ₂ q₂) ⊛ ‵ (flft (ν-counters ∷ []) fullShare) ⊛ ‵ (flft (ν-memory ∷ []) fullShare) ⊛ ‵ ftrue) ⊛ ‵ (MFirst.the-row .own r (w₁ ∷ []))) ⊛ raw (ensured 𝓤 H A quiet.ended (quiet.clauses 𝓤 H A mem run) (ν-times ∷ [], (ν-words ∷ [], (κ₂, (ν-counters ∷ [], (ν-memory ∷ [], tt))))) (quiet-args δ-times δ-words δ-counters δ-memory) tt r)))) (id⊢ 𝓤 _) $ await ! tt $ pick ! (λ r₁. split ! $ move ! (1 ∷ []) $
-        use1 W (some (λ (us : List ℕ × (List ℕ × (Unit {0} × (Unit {0} × (List ℕ × (List ℕ × (Unit {0} × Unit {0}))))))). ‵ (lasts quiet.ended (ν-times ∷ [], (ν-words ∷ [], (κ₂, (ν-counters ∷ [], (ν-memory ∷ [], tt))))) (quiet-args δ-times δ-words δ-counters δ-memory) us) ⊛ raw (fact 𝓤 ((r₁ ≡ qout) × (us .0 ≡ times-quiet) × (us .1 .0 ≡ words-quiet) × (us .1 .1 .1 .1 .0 ≡ counters-quiet) × (us .1 .1 .1 .1 .1 .0 ≡ memory-quiet))))) (id⊢ 𝓤 _) $ pick ! (λ us.
-        split ! $ move ! (1 ∷ []) $ heard ! ((r₁ ≡ qout) × (us .0 ≡ times-quiet) × (us .1 .0 ≡ words-quiet) × (us .1 .1 .1 .1 .0 ≡ counters-quiet) × (us .1 .1 .1 .1 .1 .0 ≡ memory-quiet)) (λ e₁. fsplit ! $ move ! (1 ∷ []) $ fsplit ! $ move ! (1 ∷ []) $ fsplit ! $ drop ! $ fsplit ! $ drop ! $ fsplit ! $ fsplit ! $ move ! (1 ∷ []) $ feqL ! (λ l₁-counters. move ! (1 ∷ []) $ fsplit ! $ move ! (1 ∷ []) $ fsplit ! $ drop ! $ drop ! $
+        nothing ! $ move ! (3 ∷ 0 ∷ []) $ join ! $ move ! (5 ∷ 0 ∷ []) $ join ! $ move ! (14 ∷ 0 ∷ []) $ join ! $ move ! (9 ∷ 0 ∷ []) $ join ! $ move ! (11 ∷ 0 ∷ []) $ join ! $ move ! (0 ∷ 9 ∷ 7 ∷ 5 ∷ 3 ∷ 1 ∷ []) $ group ! 6 $ use1 W (raw (Short 𝓤 H A mem run .pre (to-short ν-times ν-words ν-counters ν-memory δ-times δ-words δ-counters δ-memory))) (goes-short ν-times ν-words ν-counters ν-memory δ-times δ-words δ-counters δ-memory) $
+        calls-at ! fm (Short 𝓤 H A mem run) known-short (to-short ν-times ν-words ν-counters ν-memory δ-times δ-words δ-counters δ-memory) (and-then ! (load ! (from ! (stop !)) (look ! 40 refl)) (and-then ! (load ! (from ! (stop !)) (look ! 38 refl)) (and-then ! (load ! (from ! (stop !)) (look ! 60 refl)) (and-then ! (load ! (from ! (stop !)) (look ! 58 refl)) (and-then ! (load ! (from ! (stop !)) (look ! 34 refl)) (and-then ! (load ! (from ! (stop !)) (look ! 32 refl)) (and-then ! (load ! (from ! (stop !)) (look ! 50 refl)) (no-more !)))))))) (λ w₁.
+        use1 W (later (some (λ (r : First). ((‵ (flft (ν-times ∷ []) fullShare) ⊛ ‵ (flft (ν-words ∷ []) fullShare) ⊛ ‵ (flft κ₂ q₂) ⊛ ‵ (flft (ν-counters ∷ []) fullShare) ⊛ ‵ (flft (ν-memory ∷ []) fullShare) ⊛ ‵ ftrue) ⊛ ‵ (MFirst.the-row .own r (w₁ ∷ []))) ⊛ raw (ensured 𝓤 H A short.ended (short.clauses 𝓤 H A mem run) (ν-times ∷ [], (ν-words ∷ [], (κ₂, (ν-counters ∷ [], (ν-memory ∷ [], tt))))) (short-args δ-times δ-words δ-counters δ-memory) tt r)))) (id⊢ 𝓤 _) $ await ! tt $ pick ! (λ r₁. split ! $ move ! (1 ∷ []) $
+        use1 W (some (λ (us : List ℕ × (List ℕ × (Unit {0} × (Unit {0} × (List ℕ × (List ℕ × (Unit {0} × Unit {0}))))))). ‵ (lasts short.ended (ν-times ∷ [], (ν-words ∷ [], (κ₂, (ν-counters ∷ [], (ν-memory ∷ [], tt))))) (short-args δ-times δ-words δ-counters δ-memory) us) ⊛ raw (fact 𝓤 ((r₁ ≡ qout) × (us .0 ≡ times-short) × (us .1 .0 ≡ words-short) × (us .1 .1 .1 .1 .0 ≡ counters-short) × (us .1 .1 .1 .1 .1 .0 ≡ memory-short))))) (id⊢ 𝓤 _) $ pick ! (λ us.
+        split ! $ move ! (1 ∷ []) $ heard ! ((r₁ ≡ qout) × (us .0 ≡ times-short) × (us .1 .0 ≡ words-short) × (us .1 .1 .1 .1 .0 ≡ counters-short) × (us .1 .1 .1 .1 .1 .0 ≡ memory-short)) (λ e₁. fsplit ! $ move ! (1 ∷ []) $ fsplit ! $ move ! (1 ∷ []) $ fsplit ! $ drop ! $ fsplit ! $ drop ! $ fsplit ! $ fsplit ! $ move ! (1 ∷ []) $ feqL ! (λ l₁-counters. move ! (1 ∷ []) $ fsplit ! $ move ! (1 ∷ []) $ fsplit ! $ drop ! $ drop ! $
         move ! (4 ∷ []) $ split ! $ move ! (1 ∷ []) $ peeks ! MFirst.the-row (Is MFirst.the-row) (shows 𝓤 H A MFirst.the-row) r₁ (w₁ ∷ []) (λ is₁.
         let told₁ = LL.tells MFirst.the-type MFirst′.the-laws r₁ (w₁ ∷ []) is₁ in
         let owed₁ = LL.owed MFirst.the-type MFirst′.the-laws r₁ _ is₁ in
@@ -304,7 +305,7 @@ module _ {M : Type 1} (𝓤 : URA M) (H : Heap 𝓤) (A : Atoms 𝓤) (W : Given
         move ! (70 ∷ 71 ∷ []) $ free1 ! $ move ! (68 ∷ 69 ∷ []) $ free1 ! $ move ! (66 ∷ 67 ∷ []) $ free1 ! $ move ! (64 ∷ 65 ∷ []) $ free1 ! $ move ! (62 ∷ 63 ∷ []) $ free1 ! $ move ! (60 ∷ 61 ∷ []) $ free1 ! $ move ! (58 ∷ 59 ∷ []) $ free1 ! $ move ! (56 ∷ 57 ∷ []) $ free1 ! $ move ! (54 ∷ 55 ∷ []) $ free1 ! $ move ! (52 ∷ 53 ∷ []) $ free1 ! $ move ! (50 ∷ 51 ∷ []) $ free1 ! $ move ! (48 ∷ 49 ∷ []) $ free1 ! $ move ! (46 ∷ 47 ∷ []) $ free1 ! $ move ! (44 ∷ 45 ∷ []) $ free1 ! $ move ! (42 ∷ 43 ∷ []) $ free1 ! $ move ! (40 ∷ 41 ∷ []) $ free1 ! $ move ! (38 ∷ 39 ∷ []) $ free1 ! $ move ! (36 ∷ 37 ∷ []) $ free1 ! $ move ! (34 ∷ 35 ∷ []) $ free1 ! $ move ! (32 ∷ 33 ∷ []) $ free1 ! $ move ! (30 ∷ 31 ∷ []) $ free1 ! $ move ! (28 ∷ 29 ∷ []) $ free1 ! $ move ! (26 ∷ 27 ∷ []) $ free1 ! $ move ! (24 ∷ 25 ∷ []) $ free1 ! $ move ! (22 ∷ 23 ∷ []) $ free1 ! $ move ! (20 ∷ 21 ∷ []) $ free1 ! $ move ! (18 ∷ 19 ∷ []) $ free1 ! $ move ! (16 ∷ 17 ∷ []) $ free1 ! $ move ! (14 ∷ 15 ∷ []) $ free1 ! $ move ! (12 ∷ 13 ∷ []) $ free1 ! $ free0 ! $
         nothing ! $ move ! (11 ∷ 0 ∷ []) $ join ! $ move ! (2 ∷ 0 ∷ []) $ join ! $ move ! (3 ∷ 0 ∷ []) $ join ! $ move ! (7 ∷ 0 ∷ []) $ join ! $ move ! (4 ∷ 0 ∷ []) $ join ! $ move ! (5 ∷ 0 ∷ []) $ join ! $ keep ! (0 ∷ 4 ∷ 3 ∷ 2 ∷ 1 ∷ 6 ∷ []) $ by ! (leaves r₁ (us .0) (us .1 .0) (us .1 .1 .1 .1 .0) (us .1 .1 .1 .1 .1 .0) (owed₁ .1 .0) (holds (r₁ .done) t) (e₁ .0) (e₁ .1) (e₁ .2) (e₁ .3) (e₁ .4) l₁-counters))
         -- the way on
-        (λ t. let wait = (quiet-wait (times .now) (words .now) time (packet .now) (counters .now) (memory .now) (length ys)) (subst (λ (d : First). d .done ≡ false) (e₁ .0) (fails (r₁ .done) t)) in skips ! $ exec ! C Λ (env-of 𝓤 H (code.function .locals) (l₀ ∷ l₁ ∷ l₂ ∷ l₃ ∷ l₄ ∷ l₅ ∷ l₆ ∷ l₇ ∷ l₈ ∷ l₉ ∷ l₁₀ ∷ l₁₁ ∷ l₁₂ ∷ l₁₃ ∷ l₁₄ ∷ l₁₅ ∷ l₁₆ ∷ l₁₇ ∷ l₁₈ ∷ l₁₉ ∷ l₂₀ ∷ l₂₁ ∷ l₂₂ ∷ l₂₃ ∷ l₂₄ ∷ l₂₅ ∷ l₂₆ ∷ l₂₇ ∷ l₂₈ ∷ l₂₉ ∷ [])) pieces.t-10 (atRet (env-of 𝓤 H (code.function .locals) (l₀ ∷ l₁ ∷ l₂ ∷ l₃ ∷ l₄ ∷ l₅ ∷ l₆ ∷ l₇ ∷ l₈ ∷ l₉ ∷ l₁₀ ∷ l₁₁ ∷ l₁₂ ∷ l₁₃ ∷ l₁₄ ∷ l₁₅ ∷ l₁₆ ∷ l₁₇ ∷ l₁₈ ∷ l₁₉ ∷ l₂₀ ∷ l₂₁ ∷ l₂₂ ∷ l₂₃ ∷ l₂₄ ∷ l₂₅ ∷ l₂₆ ∷ l₂₇ ∷ l₂₈ ∷ l₂₉ ∷ [])) Post) $
+        (λ t. let wait = (short-wait (times .now) (words .now) (memory .now) time (packet .now) (counters .now) (length ys)) (subst (λ (d : First). d .done ≡ false) (e₁ .0) (fails (r₁ .done) t)) in skips ! $ exec ! C Λ (env-of 𝓤 H (code.function .locals) (l₀ ∷ l₁ ∷ l₂ ∷ l₃ ∷ l₄ ∷ l₅ ∷ l₆ ∷ l₇ ∷ l₈ ∷ l₉ ∷ l₁₀ ∷ l₁₁ ∷ l₁₂ ∷ l₁₃ ∷ l₁₄ ∷ l₁₅ ∷ l₁₆ ∷ l₁₇ ∷ l₁₈ ∷ l₁₉ ∷ l₂₀ ∷ l₂₁ ∷ l₂₂ ∷ l₂₃ ∷ l₂₄ ∷ l₂₅ ∷ l₂₆ ∷ l₂₇ ∷ l₂₈ ∷ l₂₉ ∷ [])) pieces.t-10 (atRet (env-of 𝓤 H (code.function .locals) (l₀ ∷ l₁ ∷ l₂ ∷ l₃ ∷ l₄ ∷ l₅ ∷ l₆ ∷ l₇ ∷ l₈ ∷ l₉ ∷ l₁₀ ∷ l₁₁ ∷ l₁₂ ∷ l₁₃ ∷ l₁₄ ∷ l₁₅ ∷ l₁₆ ∷ l₁₇ ∷ l₁₈ ∷ l₁₉ ∷ l₂₀ ∷ l₂₁ ∷ l₂₂ ∷ l₂₃ ∷ l₂₄ ∷ l₂₅ ∷ l₂₆ ∷ l₂₇ ∷ l₂₈ ∷ l₂₉ ∷ [])) Post) $
         rewrite ! 6 (λ (z : List ℕ). ‵ (MutRef (named 0) κ₀ (Array u64 22) .own (record { ptr = (times .ptr .0, times .ptr .1); name = times .name; now = z }) ((vptr (times .ptr .0) (times .ptr .1)) ∷ []))) (e₁ .1 ∙ wait .0) refl $
         rewrite ! 4 (λ (z : List ℕ). ‵ (MutRef (named 1) κ₁ (Array u16 56) .own (record { ptr = (words .ptr .0, words .ptr .1); name = words .name; now = z }) ((vptr (words .ptr .0) (words .ptr .1)) ∷ []))) (e₁ .2 ∙ wait .1) refl $
         rewrite ! 2 (λ (z : List ℕ). ‵ (MutSlice (named 3) κ₃ u8 .own (record { ptr = (counters .ptr .0, counters .ptr .1); name = counters .name; now = z }) ((sliceVal (counters .ptr) (length (counters .now))) ∷ []))) (e₁ .3 ∙ wait .2) refl $
@@ -358,17 +359,17 @@ module _ {M : Type 1} (𝓤 : URA M) (H : Heap 𝓤) (A : Atoms 𝓤) (W : Given
         move ! (3 ∷ 0 ∷ []) $ join ! $ move ! (3 ∷ 0 ∷ []) $ join ! $ move ! (3 ∷ 0 ∷ []) $ join ! $ move ! (3 ∷ 0 ∷ []) $ join ! $ move ! (3 ∷ 0 ∷ []) $ join ! $ keep ! (0 ∷ 6 ∷ 5 ∷ 4 ∷ 3 ∷ 1 ∷ []) $ by ! (exits r (zs .0) (zs .1 .0) (zs .1 .1 .1 .1 .0) (zs .1 .1 .1 .1 .1 .0) (zs′ .1 .1 .0) known (e .0) (e .1) (e .2) (e .3) (e .4) (e′ .1) (e .5 .fits) (e .5 .few) l-counters l′))))))))))))))))))))))))))))))))))))))))))))))))))))))))))))))))
 
 module _ {M : Type 1} (𝓤 : URA M) (H : Heap 𝓤) (A : Atoms 𝓤) (W : Given 𝓤 H A) (mem : Memory → SProp 𝓤) (run : Routine → Fun 𝓤) where
-  songpigeon-packet-walks : (C : Calls 𝓤 H) (Λ : Loops 𝓤 H) → FmC 𝓤 H (W .laws) C → Triple 𝓤 (C #quiet) (Quiet 𝓤 H A mem run) → Triple 𝓤 (C #core) (Core 𝓤 H A mem run) → Triple 𝓤 (C #hand) (Hand 𝓤 H A mem run) → Walks 𝓤 H A f.ended stayed (WpFn 𝓤 H C Λ code.function) (f.clauses 𝓤 H A mem run)
-  songpigeon-packet-walks C Λ fm known-quiet known-core known-hand = walked 𝓤 H A f.ended stayed (f.clauses 𝓤 H A mem run) (WpFn 𝓤 H C Λ code.function)
+  songpigeon-packet-walks : (C : Calls 𝓤 H) (Λ : Loops 𝓤 H) → FmC 𝓤 H (W .laws) C → Triple 𝓤 (C #short) (Short 𝓤 H A mem run) → Triple 𝓤 (C #core) (Core 𝓤 H A mem run) → Triple 𝓤 (C #hand) (Hand 𝓤 H A mem run) → Walks 𝓤 H A f.ended stayed (WpFn 𝓤 H C Λ code.function) (f.clauses 𝓤 H A mem run)
+  songpigeon-packet-walks C Λ fm known-short known-core known-hand = walked 𝓤 H A f.ended stayed (f.clauses 𝓤 H A mem run) (WpFn 𝓤 H C Λ code.function)
       (λ κs. (ptr-vals, (ptr-vals, (uint-vals w64, (slice-vals, (slice-vals, (ptr-vals, (slice-vals, tt)))))))) (λ κs. (mut-tells (named 0) (κs .0) (Array u64 22), (mut-tells (named 1) (κs .1 .0) (Array u16 56), (uint-tells w64, (shr-slice-tells (named 2) (κs .1 .1 .0) u8, (mut-slice-tells (named 3) (κs .1 .1 .1 .0) u8, (mut-tells (named 4) (κs .1 .1 .1 .1 .0) (Array u8 24576), (mut-slice-tells (named 5) (κs .1 .1 .1 .1 .1 .0) R, tt))))))))
       (λ κs qs bounds a g are. via 𝓤 _ (fst∗ 𝓤 _ (emp 𝓤))
-      (walk 𝓤 H A W mem run (κs .0) (κs .1 .0) (κs .1 .1 .0) (κs .1 .1 .1 .0) (κs .1 .1 .1 .1 .0) (κs .1 .1 .1 .1 .1 .0) (qs .0) (qs .1 .0) (qs .1 .1 .0) (qs .1 .1 .1 .0) (qs .1 .1 .1 .1 .0) (qs .1 .1 .1 .1 .1 .0) (a .0) (a .1 .0) (a .1 .1 .0) (a .1 .1 .1 .0) (a .1 .1 .1 .1 .0) (a .1 .1 .1 .1 .1 .0) (a .1 .1 .1 .1 .1 .1 .0 .ptr .0) (a .1 .1 .1 .1 .1 .1 .0 .ptr .1) (a .1 .1 .1 .1 .1 .1 .0 .name) (a .1 .1 .1 .1 .1 .1 .0 .now) (are .0) (are .1 .0) (are .1 .1 .0 .1) (are .1 .1 .1 .0) (are .1 .1 .1 .1 .0) (are .1 .1 .1 .1 .1 .0) (are .1 .1 .1 .1 .1 .1 .0 .0 .1) C Λ fm known-quiet known-core known-hand))
+      (walk 𝓤 H A W mem run (κs .0) (κs .1 .0) (κs .1 .1 .0) (κs .1 .1 .1 .0) (κs .1 .1 .1 .1 .0) (κs .1 .1 .1 .1 .1 .0) (qs .0) (qs .1 .0) (qs .1 .1 .0) (qs .1 .1 .1 .0) (qs .1 .1 .1 .1 .0) (qs .1 .1 .1 .1 .1 .0) (a .0) (a .1 .0) (a .1 .1 .0) (a .1 .1 .1 .0) (a .1 .1 .1 .1 .0) (a .1 .1 .1 .1 .1 .0) (a .1 .1 .1 .1 .1 .1 .0 .ptr .0) (a .1 .1 .1 .1 .1 .1 .0 .ptr .1) (a .1 .1 .1 .1 .1 .1 .0 .name) (a .1 .1 .1 .1 .1 .1 .0 .now) (are .0) (are .1 .0) (are .1 .1 .0 .1) (are .1 .1 .1 .0) (are .1 .1 .1 .1 .0) (are .1 .1 .1 .1 .1 .0) (are .1 .1 .1 .1 .1 .1 .0 .0 .1) C Λ fm known-short known-core known-hand))
 
 songpigeon-packet-meets : {M : Type 1} (𝓤 : URA M) (H : Heap 𝓤) (A : Atoms 𝓤) → Given 𝓤 H A → (mem : Memory → SProp 𝓤) (run : Routine → Fun 𝓤) (𝓣 : Tables 𝓤 H)
-    → Triple 𝓤 (𝓣 .C #quiet) (Quiet 𝓤 H A mem run) → Triple 𝓤 (𝓣 .C #core) (Core 𝓤 H A mem run) → Triple 𝓤 (𝓣 .C #hand) (Hand 𝓤 H A mem run) → Meets 𝓤 H A f.signature (WpFn 𝓤 H (𝓣 .C) (𝓣 .Λ) code.function) (f.spec 𝓤 H A mem run)
-songpigeon-packet-meets 𝓤 H A W mem run 𝓣 known-quiet known-core known-hand =
+    → Triple 𝓤 (𝓣 .C #short) (Short 𝓤 H A mem run) → Triple 𝓤 (𝓣 .C #core) (Core 𝓤 H A mem run) → Triple 𝓤 (𝓣 .C #hand) (Hand 𝓤 H A mem run) → Meets 𝓤 H A f.signature (WpFn 𝓤 H (𝓣 .C) (𝓣 .Λ) code.function) (f.spec 𝓤 H A mem run)
+songpigeon-packet-meets 𝓤 H A W mem run 𝓣 known-short known-core known-hand =
     walk-meets 𝓤 H A f.ended stayed W (goes-gave-ref 𝓤 H A W 6 0 tt (arrayOf (plain (λ _. u64)) 22), (goes-gave-ref 𝓤 H A W 6 1 tt (arrayOf (plain (λ _. u16)) 56), (goes-dropped 𝓤 H A W 6 (plain (λ _. u64)) yes (λ κs x f. refl), (goes-dropped 𝓤 H A W 6 (shrSliceOf (2 ∷ []) tt (plain (λ _. u8))) yes (λ κs x f. refl), (goes-gave-slice 𝓤 H A W 6 3 tt (plain (λ _. u8)), (goes-gave-ref 𝓤 H A W 6 4 tt (arrayOf (plain (λ _. u8)) 24576), (goes-gave-slice 𝓤 H A W 6 5 tt (plain (λ _. R)), tt))))))) (f.clauses 𝓤 H A mem run)
-    (WpFn 𝓤 H (𝓣 .C) (𝓣 .Λ) code.function) (WpFn-mono 𝓤 H (W .laws) 𝓣 code.function) (songpigeon-packet-walks 𝓤 H A W mem run (𝓣 .C) (𝓣 .Λ) (fmOf 𝓤 H (W .laws) 𝓣) known-quiet known-core known-hand)
+    (WpFn 𝓤 H (𝓣 .C) (𝓣 .Λ) code.function) (WpFn-mono 𝓤 H (W .laws) 𝓣 code.function) (songpigeon-packet-walks 𝓤 H A W mem run (𝓣 .C) (𝓣 .Λ) (fmOf 𝓤 H (W .laws) 𝓣) known-short known-core known-hand)
 
 pub songpigeon-packet-spec : {M : Type 1} → stated.statement M
 unfolding code.routine tablesOf
@@ -376,6 +377,6 @@ songpigeon-packet-spec 𝓤 H 𝓜 𝓖 𝓡 =
     entered 𝓤 H (tripleOf 𝓤 H (𝓖 .A) f.signature (f.spec 𝓤 H (𝓖 .A) (𝓜 .mem) (𝓡 .run)))
     (tables 𝓤 H 𝓜 𝓡 code.env .C) (tables 𝓤 H 𝓜 𝓡 code.env .Λ) #self code.function (code.unfolded 𝓤 H 𝓜 𝓡)
     (songpigeon-packet-meets 𝓤 H (𝓖 .A) (givenOf 𝓤 H 𝓜 𝓖) (𝓜 .mem) (𝓡 .run) (tablesOf 𝓤 H 𝓜 (tables 𝓤 H 𝓜 𝓡 code.env))
-    (cited 𝓤 H (Quiet 𝓤 H (𝓖 .A) (𝓜 .mem) (𝓡 .run)) 𝓜 𝓡 code.env #quiet quiet-def.routine code.calls-quiet·quiet-packet (quiet-thm.met 𝓤 H 𝓜 𝓖 𝓡))
+    (cited 𝓤 H (Short 𝓤 H (𝓖 .A) (𝓜 .mem) (𝓡 .run)) 𝓜 𝓡 code.env #short short-def.routine code.calls-arrival·short-packet (short-thm.met 𝓤 H 𝓜 𝓖 𝓡))
     (cited 𝓤 H (Core 𝓤 H (𝓖 .A) (𝓜 .mem) (𝓡 .run)) 𝓜 𝓡 code.env #core core-def.routine code.calls-card·lent·lent-packet (core-thm.met 𝓤 H 𝓜 𝓖 𝓡))
     (cited 𝓤 H (Hand 𝓤 H (𝓖 .A) (𝓜 .mem) (𝓡 .run)) 𝓜 𝓡 code.env #hand hand-def.routine code.calls-records·hand-over (hand-thm.met 𝓤 H 𝓜 𝓖 𝓡)))

@@ -1,0 +1,5 @@
+pub mod Brought
+pub mod Calls
+pub mod Times
+pub mod Finding
+pub mod Lents
