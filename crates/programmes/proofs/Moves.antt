@@ -9,10 +9,10 @@ use native.Mathlib.Numerals.{add-one}
 use native.Mathlib.Omega.{arith}
 use lib.Dec.{ltb, eqb}
 use lib.ListN.{length, getD, set, take, drop, drop-of-length-le}
-use lib.Seq.{sets, getD-take, getD-append-add, length-take-le, sets-eq}
-use borrow.Author.Tests.{lt-ltb, le-ltb, eq-eqb, ne-eqb, ltb-true}
+use lib.Seq.{sets, set-getD, getD-take, getD-append-add, length-take-le, sets-eq}
+use borrow.Author.Tests.{lt-ltb, le-ltb, eq-eqb, ne-eqb, ltb-true, eqb-true}
 use Rattle.lists.specs.Places.{part}
-use Rattle.lists.proofs.Tests.{and-left, Order, below, from, order}
+use Rattle.lists.proofs.Tests.{and-left, and-right, Order, below, from, order}
 use Rattle.lists.proofs.Places.{part-back}
 use Rattle.lists.proofs.Laying.{sets-append}
 use Rattle.watches.specs.declared.Entry.{Entry}
@@ -122,6 +122,40 @@ module _ (old new : List Entry) (ns : List ℕ) (enough : 5 ≤ length ns) where
         before = before;
         fits = omega (arith, e, s .2, small (placeOf (pidAt new k) old) (omega (arith, before)));
       }
+
+-- NOTHING HALF-BUILT in the rooms of the list: one room more of which that is known
+pub none-turn : (ns : List ℕ) (none : Bool) (k : ℕ) → (none ≡ true → (j : ℕ) → roomOfPlace j < k → halfAt ns (roomOfPlace j) ≡ 0)
+    → (none && eqb (halfAt ns k) 0) ≡ true → (j : ℕ) → roomOfPlace j < k + 1 → halfAt ns (roomOfPlace j) ≡ 0
+none-turn ns none k before e j h = go (order (roomOfPlace j) k)
+  where
+    go : Order (roomOfPlace j) k → halfAt ns (roomOfPlace j) ≡ 0
+    go (below b) = before (and-left none (eqb (halfAt ns k) 0) e) j b
+    go (from b) =
+        let here : roomOfPlace j ≡ k = omega arith in
+        ap (halfAt ns) here ∙ eqb-true (halfAt ns k) 0 (and-right none (eqb (halfAt ns k) 0) e)
+
+-- and then no length moves
+module _ (old new : List Entry) (ns : List ℕ) (most : length old ≤ 16) (none : (k : ℕ) → k < 16 → halfAt ns (roomOfPlace k) ≡ 0) where
+  half-none : (k : ℕ) → movedHalf old new ns k ≡ 0
+  half-none k = go (order 0 (movedHalf old new ns k))
+    where
+      go : Order 0 (movedHalf old new ns k) → movedHalf old new ns k ≡ 0
+      go (from b) = omega arith
+      go (below some) =
+          let s = half-some (isFirst new k) (isListed (pidAt new k) old) (halfAt ns (roomOfPlace (placeOf (pidAt new k) old))) some in
+          s .2 ∙ none (placeOf (pidAt new k) old) (omega (arith, ltb-true (placeOf (pidAt new k) old) (length old) (s .1)))
+
+  laid-none : (k : ℕ) → k ≤ 16 → sets ns 5 (movedFrom old new ns 0 k) ≡ ns
+  laid-none zero h = halves-begin old new ns
+  laid-none (suc k) h =
+      ap (λ n. sets ns 5 (movedFrom old new ns 0 n)) (sym (add-one k))
+      ∙ sym (halves-turn old new ns k)
+      ∙ ap (λ z. set z (5 + k) (movedHalf old new ns k)) (laid-none k (omega arith))
+      ∙ ap (set ns (5 + k)) (half-none k ∙ sym (none k h))
+      ∙ set-getD ns (5 + k) 0
+
+  pub halves-none : length ns ≡ 21 → movedHalves old new ns ≡ ns
+  halves-none e = sym (halves-end old new ns e) ∙ laid-none 16 (omega arith)
 
 -- one place more that stays
 pub stayed-turn : (old new : List Entry) (d : ℕ) (ns : List ℕ) (k : ℕ) → k < d → Stayed old (take d new) ns k

@@ -1,17 +1,20 @@
 -- The list read entry by entry. Assumes nothing.
 use mathlib.Core.Path.{_≡_, refl, sym, ap, _∙_}
-use mathlib.Core.Bool.{Bool, true, false, cond, _||_}
+use mathlib.Core.Bool.{Bool, true, false, cond, _||_, not, or-false, or-true}
 use mathlib.Core.List.{List, [], _∷_}
 use Prim.Native.Nat.{ℕ, zero, suc, _+_, _-_, _*_, _≤_, _<_}
 use native.Mathlib.Numerals.{add-one}
 use native.Mathlib.Omega.{arith}
-use lib.Dec.{eqb}
+use lib.Dec.{eqb, leb}
 use lib.ListN.{length, getD, drop, length-drop}
+use borrow.Author.Tests.{leb-false}
+use Rattle.lists.proofs.Tests.{or-false-right}
 use Rattle.lists.proofs.Turns.{drop-turn}
 use Rattle.watches.specs.declared.Entry.{Entry}
 use Rattle.programmes.specs.declared.Listed.{Listed}
-use Rattle.programmes.specs.Listing.{isNumber, entered, madeBad, readOn}
-use Rattle.programmes.specs.Reading.{numberAt, pidIn, seenTo}
+use Rattle.programmes.specs.declared.Addition.{Addition}
+use Rattle.programmes.specs.Listing.{isNumber, pidUnusable, mostListed, sinceOf, entered, madeBad, listedWith, readOn}
+use Rattle.programmes.specs.Reading.{numberAt, pidIn, seenTo, marked, added}
 
 -- A NUMBER SEEN EARLIER: the nearest entry before, or one before that
 pub seen-turn : (n : ℕ) (e : List ℕ) (i : ℕ) → 0 < i → isNumber n (seenTo e i) ≡ (eqb (numberAt e (i - 1)) n || isNumber n (seenTo e (i - 1)))
@@ -25,6 +28,52 @@ unfolding isNumber seenTo
 seen-none n e i h =
     let q : i ≡ 0 = omega arith in
     ap (λ k. isNumber n (seenTo e k)) q
+
+-- A MARK that says nothing, and one that makes the list bad
+pub marked-none : (l : Listed) → marked false l ≡ l
+marked-none l = ap (λ b. record { count = l .count; bad = b; entries = l .entries }) (or-false (l .bad))
+
+pub marked-bad : (l : Listed) → marked true l ≡ madeBad l
+marked-bad l = ap (λ b. record { count = l .count; bad = b; entries = l .entries }) (or-true (l .bad))
+
+-- a test and its opposite
+opposite : (b c : Bool) → not b ≡ c → b ≡ not c
+opposite true c e = ap not e
+opposite false c e = ap not e
+
+-- none of three grounds is met, so not the last
+last : (a b c : Bool) → (a || (b || c)) ≡ false → c ≡ false
+last a b c e = or-false-right b c (or-false-right a (b || c) e)
+
+-- ONE ENTRY ENTERED behind c others: whether it is usable says what it adds, and that there is room for it
+abbrev groundsOf : List ℕ → ℕ → ℕ → ℕ → Bool
+groundsOf seen n q c = pidUnusable q || (isNumber n seen || leb mostListed c)
+
+pub listed-room : (seen : List ℕ) (n q c : ℕ) (usable : Bool) → usable ≡ not (groundsOf seen n q c) → usable ≡ true → c < 16
+listed-room seen n q c usable says u =
+    leb-false mostListed c (last (pidUnusable q) (isNumber n seen) (leb mostListed c) (opposite (groundsOf seen n q c) true (sym says ∙ u)))
+
+module _ (t : ℕ) (old : List Entry) (seen : List ℕ) (n q c : ℕ) (usable : Bool) (says : usable ≡ not (groundsOf seen n q c)) (some : eqb n 0 ≡ false) where
+  grounds : (l : Listed) → l .count ≡ c → groundsOf seen n q (l .count) ≡ not usable
+  grounds l e = ap (groundsOf seen n q) e ∙ opposite (groundsOf seen n q c) usable (sym says)
+
+  pub entered-bad : usable ≡ false → (l : Listed) → l .count ≡ c → entered t old seen n q l ≡ marked true l
+  entered-bad u l e = rw (some, grounds l e, u) (sym (marked-bad l))
+
+  pub entered-listed : usable ≡ true → (l : Listed) → l .count ≡ c
+      → entered t old seen n q l ≡ listedWith (record { number = n; pid = q; since = sinceOf t old n q }) (marked false l)
+  entered-listed u l e =
+      rw (some, grounds l e, u) (ap (listedWith (record { number = n; pid = q; since = sinceOf t old n q })) (sym (marked-none l)))
+
+-- the list with what an entry adds, by whether it is listed: at most sixteen are
+pub added-turn : (r : Addition) (l next : Listed) → l .count ≤ 16 → (r .listed ≡ true → l .count < 16)
+    → (b : Bool) → r .listed ≡ b → next ≡ cond b (listedWith (r .entry) (marked (r .bad) l)) (marked (r .bad) l) → (next ≡ added r l) × (next .count ≤ 16)
+added-turn r l next most room b e q =
+    (q ∙ ap (λ z. cond z (listedWith (r .entry) (marked (r .bad) l)) (marked (r .bad) l)) (sym e), go b e (ap (λ (z : Listed). z .count) q))
+  where
+    go : (b : Bool) → r .listed ≡ b → next .count ≡ cond b (listedWith (r .entry) (marked (r .bad) l)) (marked (r .bad) l) .count → next .count ≤ 16
+    go true e n = omega (arith, room e)
+    go false e n = omega arith
 
 -- ONE ENTRY of four bytes
 fours : (e : List ℕ) (i : ℕ) → i + 4 ≤ length e

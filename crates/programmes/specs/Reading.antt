@@ -4,10 +4,15 @@
 --   numberAt e k == the programme number of the entry k
 --   pidIn e k    == its PID
 --   seenTo e k   == the numbers of the entries before it, the nearest first
+--   marked b l   == the list, made bad where b says so
+--   added r l    == the list with what one entry adds
 use Prim.Native.Nat.{ℕ, zero, suc, _+_, _*_}
+use mathlib.Core.Bool.{Bool, cond, _||_}
 use mathlib.Core.List.{List, [], _∷_}
 use lib.ListN.{getD}
-use Rattle.programmes.specs.Listing.{numberOf, entryPid}
+use Rattle.programmes.specs.declared.Listed.{Listed}
+use Rattle.programmes.specs.declared.Addition.{Addition}
+use Rattle.programmes.specs.Listing.{numberOf, entryPid, listedWith}
 
 abbrev pub numberAt : List ℕ → ℕ → ℕ
 numberAt e k = numberOf (getD e (4 * k) 0) (getD e (4 * k + 1) 0)
@@ -18,3 +23,9 @@ pidIn e k = entryPid (getD e (4 * k + 2) 0) (getD e (4 * k + 3) 0)
 unfoldable pub seenTo : List ℕ → ℕ → List ℕ
 seenTo e zero = []
 seenTo e (suc k) = numberAt e k ∷ seenTo e k
+
+abbrev pub marked : Bool → Listed → Listed
+marked b l = record { count = l .count; bad = l .bad || b; entries = l .entries }
+
+abbrev pub added : Addition → Listed → Listed
+added r l = cond (r .listed) (listedWith (r .entry) (marked (r .bad) l)) (marked (r .bad) l)

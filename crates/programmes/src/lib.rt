@@ -11,7 +11,7 @@ ghost use lib.Seq.{sets};
 ghost use Rattle.lists.specs.Places.{part};
 ghost use Rattle.sections.specs.Rooms.{memorySize, roomOfPlace, roomBase, halfBuilt};
 ghost use Rattle.programmes.specs.Listing.{isPair, sinceOf, isNumber, pidUnusable, mostListed, entered, noneListed, readOn, listOf};
-ghost use Rattle.programmes.specs.Reading.{numberAt, pidIn, seenTo};
+ghost use Rattle.programmes.specs.Reading.{numberAt, pidIn, seenTo, added};
 ghost use Rattle.programmes.specs.Places.{placeOf, halfAt, movedHalf, movedHalves, movedPlaces, movedBytes};
 ghost use Rattle.programmes.specs.Moving.{Placed, Stayed};
 
@@ -100,30 +100,58 @@ fn is_usable(e: &[u8], k: usize, number: u16, pid: u16, count: usize) -> bool
     !seen_before(e, number, k)
 }
 
-// The list with the entry k read; old is the list just replaced.
-fn read_one(l: Listed, t: u64, old: [Entry; 16], old_count: usize, e: &[u8], k: usize) -> Listed
-    requires { ⌜ (l .count ≤ 16) × («old_count» ≤ 16) × (4 * k ≤ length (now e)) ⌝ }
-    ensures { λ r. ⌜ (r ≡ entered t (take «old_count» old) (seenTo (now (e .entry)) k) (numberAt (now (e .entry)) k) (pidIn (now (e .entry)) k) l) × (r .count ≤ 16) ⌝ }
+// What an entry of a PAT adds to the list: whether it makes it bad, and whether it is listed, and then as which
+// entry.
+struct Addition {
+    bad: bool,
+    listed: bool,
+    entry: Entry,
+}
+
+// What the entry k adds behind `count` others; old is the list just replaced.
+fn read_one(
+    count: usize,
+    t: u64,
+    old: [Entry; 16],
+    old_count: usize,
+    e: &[u8],
+    k: usize,
+) -> Addition
+    requires { ⌜ («old_count» ≤ 16) × (4 * k ≤ length (now e)) ⌝ }
+    ensures { λ r. ⌜ ((l : Listed) → l .count ≡ count → entered t (take «old_count» old) (seenTo (now (e .entry)) k) (numberAt (now (e .entry)) k) (pidIn (now (e .entry)) k) l ≡ added r l)
+        × (r .listed ≡ true → count < 16) ⌝ }
 {
     let number = number_at(e, k);
-    if number == 0 {
-        return l;
-    }
-    let mut r = l;
-    let i = l.count;
     let pid = pid_in(e, k);
-    if !is_usable(e, k, number, pid, i) {
-        r.bad = true;
-        return r;
+    let none = Entry {
+        number: 0,
+        pid: 0,
+        since: 0,
+    };
+    if number == 0 {
+        return Addition {
+            bad: false,
+            listed: false,
+            entry: none,
+        };
+    }
+    if !is_usable(e, k, number, pid, count) {
+        return Addition {
+            bad: true,
+            listed: false,
+            entry: none,
+        };
     }
     let since = since_of(t, old, old_count, number, pid);
-    r.entries[i] = Entry {
-        number: number,
-        pid: pid,
-        since: since,
-    };
-    r.count = i + 1;
-    r
+    Addition {
+        bad: false,
+        listed: true,
+        entry: Entry {
+            number: number,
+            pid: pid,
+            since: since,
+        },
+    }
 }
 
 // The list of the entries e; old is the list just replaced.
@@ -143,7 +171,14 @@ fn read_entries(t: u64, old: [Entry; 16], old_count: usize, e: &[u8]) -> Listed
     let whole = e.len() / 4;
     let mut k: usize = 0;
     while k < whole {
-        l = read_one(l, t, old, old_count, e, k);
+        let r = read_one(l.count, t, old, old_count, e, k);
+        l.bad = l.bad | r.bad;
+        if r.listed {
+            let i = l.count;
+            let entry = r.entry;
+            l.entries[i] = entry;
+            l.count = i + 1;
+        }
         k += 1;
     }
     if e.len() % 4 != 0 {
@@ -205,6 +240,20 @@ fn moved_half(
     half[FIRST_ROOM + place]
 }
 
+// Whether nothing is half-built in the rooms of the list. All lengths are looked at: a loop without a way out is
+// done many at a time.
+fn none_half(half: [u16; 21]) -> bool
+    ensures { λ r. ⌜ (r ≡ true → (k : ℕ) → k < 16 → halfAt half (roomOfPlace k) ≡ 0) ⌝ }
+{
+    let mut none = true;
+    let mut k: usize = FIRST_ROOM;
+    while k < 21 {
+        none = none & (half[k] == 0);
+        k += 1;
+    }
+    none
+}
+
 // All half-built lengths under the new list.
 fn moved_halves(
     old: [Entry; 16],
@@ -216,6 +265,9 @@ fn moved_halves(
     requires { ⌜ («old_count» ≤ 16) × («new_count» ≤ 16) ⌝ }
     ensures { λ r. ⌜ r ≡ movedHalves (take «old_count» old) (take «new_count» new) half ⌝ }
 {
+    if none_half(half) {
+        return half;
+    }
     let mut out = half;
     let mut k: usize = 0;
     while k < MOST_LISTED {
