@@ -74,7 +74,7 @@ fn gaps_in(times: &[u64]) -> [u64; 5]
 }
 
 // The half-built lengths.
-pub fn halves_in(words: &[u16]) -> [u16; 21]
+fn halves_in(words: &[u16]) -> [u16; 21]
     requires { ⌜ length (now words) ≡ wordCount ⌝ }
     ensures { λ r. ⌜ r ≡ part (now (words .entry)) 32 21 ⌝ }
 {

@@ -81,12 +81,12 @@ module _ (top : ℕ) (w : List ℕ) (n : ℕ) (fits : n ≤ length w) (size : n 
       taken-ends top [] w (n - 1) (omega arith) goes-on (ap (λ k. isMore (stageOf top (take k w))) q ∙ ap isMore e) ∙ q
 
 -- A GOOD SECTION is whole, has its table's table_id, and so does not begin as stuffing does
-good-whole : (r pid : ℕ) (g : Stage) (s : List ℕ) → isGoodOutcome (stepOutcome r pid g s) ≡ true → g ≡ Whole
+pub good-whole : (r pid : ℕ) (g : Stage) (s : List ℕ) → isGoodOutcome (stepOutcome r pid g s) ≡ true → g ≡ Whole
 good-whole r pid More s e = absurd (true≢false (sym e))
 good-whole r pid Bad s e = absurd (true≢false (sym e))
 good-whole r pid Whole s e = refl
 
-good-extension : (o : Outcome) → isGoodOutcome o ≡ true → o ≡ Good (extensionIn o)
+pub good-extension : (o : Outcome) → isGoodOutcome o ≡ true → o ≡ Good (extensionIn o)
 good-extension Unfinished e = absurd (true≢false (sym e))
 good-extension (Good n) e = refl
 good-extension (Fault f c i) e = absurd (true≢false (sym e))
@@ -163,7 +163,7 @@ module _ (r : ℕ) (m : List ℕ) (w : List ℕ) (n pid : ℕ) (below : r < room
       ∙ stuffing-ignored r (sets m (roomBase r) section) (whole section ∷ []) (drop n w) rest
 
 -- A POINTER OF 0, with nothing half-built
-pointed-anew : (r : ℕ) (m s : List ℕ) → pointerOf s ≡ 0 → 1 < length s
+pub pointed-anew : (r : ℕ) (m s : List ℕ) → pointerOf s ≡ 0 → 1 < length s
     → built r m 0 true s ≡ fed r (record { mode = fresh; memory = m; half = 0; finished = [] }) (drop 1 s)
 unfolding built fed
 pointed-anew r m s e l =
@@ -175,17 +175,25 @@ pointed-anew r m s e l =
 pub half-stays : (ns : List ℕ) (r : ℕ) → halfAt ns r ≡ 0 → set ns r 0 ≡ ns
 half-stays ns r none = ap (set ns r) (sym none) ∙ set-getD ns r 0
 
--- ONE GOOD SECTION, of a room other than the PAT's: its gap ends
-module _ (t r pid : ℕ) (h : Held) (none : halfAt (h .core .half) r ≡ 0) where
-  one-absorbed : (md : Mode) (m s : List ℕ) (n : ℕ) → eqb r patRoom ≡ false → wholeOutcome r pid s ≡ Good n
+-- ONE GOOD SECTION, of a room other than the PAT's: the room is empty and its gap ends
+module _ (t r pid : ℕ) (h : Held) where
+  pub one-ended : (md : Mode) (m s : List ℕ) (n : ℕ) → eqb r patRoom ≡ false → wholeOutcome r pid s ≡ Good n
+      → absorbedAll t r pid (whole s ∷ []) (builtIn r (record { mode = md; memory = m; half = 0; finished = whole s ∷ [] }) h)
+      ≡ record { held = record { core = endedGap t r pid n (withHalf (set (h .core .half) r 0) (h .core)); memory = m }; events = [] }
+  unfolding absorbedAll
+  one-ended md m s n other good =
+      let c = withHalf (set (h .core .half) r 0) (h .core) in
+      let g : Held = record { core = c; memory = m } in
+      ap (λ (o : Outcome). record { held = absorbedBy o t r pid s g .held; events = absorbedBy o t r pid s g .events ++ [] }) good
+      ∙ ap (λ (b : Bool). record { held = cond b (relisted t s g) (record { core = endedGap t r pid n c; memory = m }); events = cond (b && newList t s c .bad) (eventAt t patError bad pid ∷ []) [] ++ [] }) other
+
+  -- in a room that was empty before
+  one-absorbed : halfAt (h .core .half) r ≡ 0 → (md : Mode) (m s : List ℕ) (n : ℕ) → eqb r patRoom ≡ false → wholeOutcome r pid s ≡ Good n
       → absorbedAll t r pid (whole s ∷ []) (builtIn r (record { mode = md; memory = m; half = 0; finished = whole s ∷ [] }) h)
       ≡ record { held = record { core = endedGap t r pid n (h .core); memory = m }; events = [] }
-  unfolding absorbedAll
-  one-absorbed md m s n other good =
-      let g : Held = record { core = h .core; memory = m } in
-      ap (λ (ns : List ℕ). absorbedAll t r pid (whole s ∷ []) (record { core = withHalf ns (h .core); memory = m })) (half-stays (h .core .half) r none)
-      ∙ ap (λ (o : Outcome). record { held = absorbedBy o t r pid s g .held; events = absorbedBy o t r pid s g .events ++ [] }) good
-      ∙ ap (λ (b : Bool). record { held = cond b (relisted t s g) (record { core = endedGap t r pid n (h .core); memory = m }); events = cond (b && newList t s (h .core) .bad) (eventAt t patError bad pid ∷ []) [] ++ [] }) other
+  one-absorbed none md m s n other good =
+      one-ended md m s n other good
+      ∙ ap (λ (ns : List ℕ). record { held = record { core = endedGap t r pid n (withHalf ns (h .core)); memory = m }; events = [] }) (half-stays (h .core .half) r none)
 
 -- A PAYLOAD s of it: a pointer of 0, and the bytes w
 module _ (t r pid : ℕ) (h : Held) (s w : List ℕ) (n : ℕ) (behind : drop 1 s ≡ w) where

@@ -30,6 +30,7 @@ use Rattle.quiet.specs.Quiet.{stateQuiet, sizesQuiet, countedTable}
 use Rattle.arrival.specs.Arrival.{headBrings, countBrings, sectionEnd, sectionIn, aloneIn, roomOpen, isGoodOutcome, brought, arrivalCall, arrivedCore, arrivedMemory}
 use Rattle.quiet.proofs.Turns.{passed, sizes-lengths}
 use Rattle.quiet.proofs.Calls.{QuietState, state-parts, quiet-sound, sizes-rest, calm-call}
+use Rattle.arrival.proofs.Clear.{Clear, clear-call}
 use Rattle.arrival.proofs.Brought.{Stuffed, stuffed-at, half-stays, one-brought}
 
 -- SUCH A PACKET, part by part
@@ -143,14 +144,24 @@ module _ (s : State) (m : List ℕ) (t : ℕ) (x counters : List ℕ) (room : �
   packet : length x ≡ packetSize
   packet = sizes-lengths t x counters room (a .sizes) .0
 
-  payload-is : payloadOf x ≡ drop 4 x
-  payload-is = ap (λ c. drop (payloadPlace c (getD x 4 0)) x) (a .head .control)
+  clear : Clear x counters
+  clear =
+      record {
+        sync = a .head .sync;
+        error = a .head .error;
+        clear = a .head .clear;
+        control = a .head .control;
+        some = a .head .some;
+        byte = a .byte;
+        silent = a .silent;
+        take = a .take;
+      }
 
-  -- THE PAYLOAD
-  payload-arrives : sectionsTaken t r (pidOf x) (unitStart x) (payloadOf x) (heldOf s m) ≡ after
+  -- the payload
+  payload-arrives : sectionsTaken t r (pidOf x) (unitStart x) (drop 4 x) (heldOf s m) ≡ after
   unfolding part
   payload-arrives =
-      ap₂ (λ b p. sectionsTaken t r (pidOf x) b p (heldOf s m)) (a .head .start) payload-is
+      ap (λ b. sectionsTaken t r (pidOf x) b (drop 4 x) (heldOf s m)) (a .head .start)
       ∙ one-brought t r (pidOf x) (heldOf s m) (drop 4 x) (drop 5 x) (sizeIn x) (drop-drop 1 4 x) (a .empty) (a .other) (a .below) size
       (getD-drop 4 x 0 0 ∙ a .head .pointer)
       (omega (arith, packet, length-drop 4 x))
@@ -159,61 +170,15 @@ module _ (s : State) (m : List ℕ) (t : ℕ) (x counters : List ℕ) (room : �
       (a .good)
       (rest-stuffed x packet (a .ends) (a .alone))
 
-  -- 5
-  step-5 : (cs : List ℕ) → step5 t x true cs (heldOf s m) ≡ record { held = after .held; counters = cs; events = [] }
-  step-5 cs =
-      let taken = sectionsTaken t r (pidOf x) (unitStart x) (payloadOf x) (heldOf s m) in
-      let none : Absorbed = record { held = heldOf s m; events = [] } in
-      let drops : Step = record { held = droppedRoom r (heldOf s m); counters = cs; events = scramblingEvents t (s .core) (pidOf x) } in
-      ap (λ b. cond b drops (record { held = cond (ltb r roomCount) taken none .held; counters = cs; events = cond (ltb r roomCount) taken none .events })) (a .head .clear)
-      ∙ ap (λ b. record { held = cond b taken none .held; counters = cs; events = cond b taken none .events }) (lt-ltb r roomCount (a .below))
-      ∙ ap (λ (z : Absorbed). record { held = z .held; counters = cs; events = z .events }) payload-arrives
-
-  -- 4: an empty room has nothing to drop
+  -- an empty room has nothing to drop
   kept : (keep : Bool) → cond keep (heldOf s m) (droppedRoom r (heldOf s m)) ≡ heldOf s m
   kept true = refl
   kept false = ap (λ (ns : List ℕ). record { core = withHalf ns (s .core); memory = m }) (half-stays (s .core .half) r (a .empty))
 
-  step-4 : (j : Counted) → j .event ≡ false → j .take ≡ true
-      → also (packetEvents t x (cond (j .event) (continuityError ∷ []) [])) (step5 t x (j .take) (set counters (pidOf x) (j .byte)) (cond (j .keep) (heldOf s m) (droppedRoom r (heldOf s m))))
-      ≡ record { held = after .held; counters = set counters (pidOf x) (j .byte); events = [] }
-  step-4 j none take =
-      let cs = set counters (pidOf x) (j .byte) in
-      let h = cond (j .keep) (heldOf s m) (droppedRoom r (heldOf s m)) in
-      ap₂ (λ (b c : Bool). also (packetEvents t x (cond b (continuityError ∷ []) [])) (step5 t x c cs h)) none take
-      ∙ ap (step5 t x true cs) (kept (j .keep))
-      ∙ step-5 cs
-
-  -- 3 and 2
-  abbrev left : Step
-  left = record { held = after .held; counters = countedTable x counters; events = [] }
-
-  not-idle : (eqb (pidOf x) nullPid || eqb (controlOf x) 0) ≡ false
-  not-idle = rw (a .head .some, ne-eqb (controlOf x) 0 (λ z. omega (arith, a .head .control)))
-
-  step-2 : step2 t x counters (heldOf s m) ≡ left
-  step-2 =
-      ap (λ b. cond b (record { held = heldOf s m; counters = counters; events = packetEvents t x (transportError ∷ []) }) (step3 t x counters (heldOf s m))) (a .head .error)
-      ∙ ap (λ b. cond b (record { held = heldOf s m; counters = counters; events = [] }) (step4 t x counters (heldOf s m))) not-idle
-      ∙ step-4 (counted x counters) (a .silent) (a .take)
-      ∙ ap (λ b. record { held = after .held; counters = cond b counters (set counters (pidOf x) (counted x counters .byte)); events = [] }) (sym not-idle)
-
   -- THE CALL
-  is-accepted : length (s .core .since) ≤ 5 → PacketAccepted s t x counters m room
-  is-accepted l =
-      record {
-        packet = packet;
-        table = sizes-lengths t x counters room (a .sizes) .1;
-        room = sizes-rest t x counters room (a .sizes) .0;
-        time = leb-true t latestTime (sizes-rest t x counters room (a .sizes) .1);
-        sound = quiet-sound s m t patPid (a .quiet) l;
-        byte = a .byte;
-        order = a .quiet .order;
-      }
-
   call-arrives : length (s .core .since) ≤ 5 → packetCall s t x counters m room
       ≡ record { refusal = 0; state = record { latest = t; core = arrivedCore t x (s .core) }; counters = countedTable x counters; memory = arrivedMemory x (s .core) m; events = [] }
-  call-arrives l = calm-call s m t patPid (a .quiet) x counters room (a .head .sync) (is-accepted l) left step-2 refl
+  call-arrives l = clear-call s m t patPid x counters room (a .quiet) (a .sizes) clear l (a .below) (kept (counted x counters .keep)) (after .held) payload-arrives
 
 pub arrival-call : (s : State) (m : List ℕ) (t : ℕ) (x counters : List ℕ) (room : ℕ) → arrivalCall s m t x counters room ≡ true
     → length (s .core .since) ≤ 5 → length m ≡ memorySize → packetCall s t x counters m room

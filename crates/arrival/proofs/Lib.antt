@@ -1,5 +1,12 @@
 pub mod Brought
+pub mod Clear
 pub mod Calls
+pub mod Grown
+pub mod Growths
+pub mod Ended
+pub mod Endings
 pub mod Times
 pub mod Finding
+pub mod Grounds
+pub mod Ends
 pub mod Lents

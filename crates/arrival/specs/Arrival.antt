@@ -17,8 +17,6 @@
 --   extensionIn o       == that of a good section
 --   arrivedCore, arrivedMemory == the core and section memory after such a call
 --   pairsTouched        == the times of the arrays, the gaps of the listed pairs of a number and a PID beginning anew
---   shortIn             == the call is quiet (crate quiet) or brings one good section
---   leftTimes .. leftMemory == what a part of a call leaves: what the call leaves where it was done, else all as it was
 use Prim.Native.Nat.{ℕ, zero, suc, _+_, _*_, _%_}
 use mathlib.Core.Bool.{Bool, true, false, cond, not, _&&_, _||_}
 use mathlib.Core.List.{List}
@@ -41,10 +39,8 @@ use Rattle.calls.specs.declared.Core.{Core}
 use Rattle.calls.specs.declared.State.{State}
 use Rattle.calls.specs.Cores.{roomFor}
 use Rattle.calls.specs.Steps.{counted, arrivedTable, arrivedProgramme}
-use Rattle.calls.specs.Calls.{Result, answerOf, packetCall}
 use Rattle.arrays.specs.Lent.{timeCount, wordCount, stateIn}
-use Rattle.arrays.specs.Replies.{timesAfter, wordsAfter}
-use Rattle.quiet.specs.Quiet.{stateQuiet, sizesQuiet, quietIn}
+use Rattle.quiet.specs.Quiet.{stateQuiet, sizesQuiet}
 
 -- THE PACKET
 abbrev pub headBrings : List ℕ → Bool
@@ -127,20 +123,3 @@ touchedFrom n pid t words k (suc left) times =
 
 abbrev pub pairsTouched : ℕ → ℕ → ℕ → List ℕ → List ℕ → List ℕ
 pairsTouched n pid t words times = touchedFrom n pid t words 0 (getD words 55 0) times
-
--- BOTH SHORT WAYS
-abbrev pub shortIn : List ℕ → List ℕ → List ℕ → ℕ → List ℕ → List ℕ → ℕ → Bool
-shortIn times words m t x counters room =
-    cond (quietIn times words m t x counters room) true (arrivalIn times words m t x counters room)
-
-abbrev pub leftTimes : Bool → Result → List ℕ → List ℕ
-leftTimes done r times = cond done (timesAfter (answerOf r) times) times
-
-abbrev pub leftWords : Bool → Result → List ℕ → List ℕ
-leftWords done r words = cond done (wordsAfter (answerOf r) words) words
-
-abbrev pub leftTable : Bool → Result → List ℕ → List ℕ
-leftTable done r counters = cond done (r .counters) counters
-
-abbrev pub leftMemory : Bool → Result → List ℕ → List ℕ
-leftMemory done r m = cond done (r .memory) m

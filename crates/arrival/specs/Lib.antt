@@ -1,1 +1,4 @@
 pub mod Arrival
+pub mod Growing
+pub mod Ending
+pub mod Short

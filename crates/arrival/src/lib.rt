@@ -1,6 +1,9 @@
-// The short ways of a packet call on lent arrays: a quiet call (crate `quiet`), and a packet that brings one good
-// section of a table other than the PAT and nothing else. Both are done on the arrays themselves. What is not seen
-// at a glance is left to the call itself.
+// The short ways of a packet call on lent arrays: a quiet call (crate `quiet`), a packet that brings one good section
+// of a table other than the PAT and nothing else, and one that adds to a section which stays unfinished. All are done
+// on the arrays themselves. What is not seen at a glance is left to the call itself.
+mod ending;
+mod growing;
+
 use arrays::Reply;
 use header::Header;
 use quiet::First;
@@ -20,8 +23,9 @@ ghost use Rattle.sections.specs.Steps.{stepOutcome};
 ghost use Rattle.calls.specs.Cores.{roomFor};
 ghost use Rattle.calls.specs.Calls.{packetCall};
 ghost use Rattle.arrays.specs.Lent.{timeCount, wordCount, timesOf, stateIn};
-ghost use Rattle.quiet.specs.Quiet.{sizesQuiet, firstOf};
-ghost use Rattle.arrival.specs.Arrival.{headBrings, countBrings, sectionEnd, sectionIn, aloneIn, roomOpen, brought, pairsTouched, endedGap, extensionIn, arrivalCall, arrivalIn, shortIn, leftTimes, leftWords, leftTable, leftMemory};
+ghost use Rattle.quiet.specs.Quiet.{sizesQuiet};
+ghost use Rattle.arrival.specs.Arrival.{headBrings, countBrings, sectionEnd, sectionIn, aloneIn, roomOpen, brought, pairsTouched, endedGap, extensionIn, arrivalCall, arrivalIn};
+ghost use Rattle.arrival.specs.Short.{shortIn, WayDone};
 
 // What a packet brings: whether one good section and nothing else, and then its room and its table_id_extension.
 struct Found {
@@ -241,15 +245,9 @@ fn arrival_packet(
     memory: &mut [u8; 24576],
     room: usize,
 ) -> First
-    ensures { λ r. ⌜ (r ≡ firstOf (arrivalIn (now (times .entry)) (now (words .entry)) (now (memory .entry)) time (now (packet .entry)) (now (counters .entry)) room))
-        × (now (times .exit) ≡ leftTimes (arrivalIn (now (times .entry)) (now (words .entry)) (now (memory .entry)) time (now (packet .entry)) (now (counters .entry)) room)
-        (packetCall (stateIn (now (times .entry)) (now (words .entry))) time (now (packet .entry)) (now (counters .entry)) (now (memory .entry)) room) (now (times .entry)))
-        × (now (words .exit) ≡ leftWords (arrivalIn (now (times .entry)) (now (words .entry)) (now (memory .entry)) time (now (packet .entry)) (now (counters .entry)) room)
-        (packetCall (stateIn (now (times .entry)) (now (words .entry))) time (now (packet .entry)) (now (counters .entry)) (now (memory .entry)) room) (now (words .entry)))
-        × (now (counters .exit) ≡ leftTable (arrivalIn (now (times .entry)) (now (words .entry)) (now (memory .entry)) time (now (packet .entry)) (now (counters .entry)) room)
-        (packetCall (stateIn (now (times .entry)) (now (words .entry))) time (now (packet .entry)) (now (counters .entry)) (now (memory .entry)) room) (now (counters .entry)))
-        × (now (memory .exit) ≡ leftMemory (arrivalIn (now (times .entry)) (now (words .entry)) (now (memory .entry)) time (now (packet .entry)) (now (counters .entry)) room)
-        (packetCall (stateIn (now (times .entry)) (now (words .entry))) time (now (packet .entry)) (now (counters .entry)) (now (memory .entry)) room) (now (memory .entry))) ⌝ }
+    ensures { λ r. ⌜ WayDone (arrivalIn (now (times .entry)) (now (words .entry)) (now (memory .entry)) time (now (packet .entry)) (now (counters .entry)) room)
+        (packetCall (stateIn (now (times .entry)) (now (words .entry))) time (now (packet .entry)) (now (counters .entry)) (now (memory .entry)) room)
+        r (now (times .entry)) (now (times .exit)) (now (words .entry)) (now (words .exit)) (now (counters .entry)) (now (counters .exit)) (now (memory .entry)) (now (memory .exit)) ⌝ }
 {
     let a = arrays::time_count(times);
     let b = arrays::word_count(words);
@@ -281,19 +279,21 @@ pub fn short_packet(
     memory: &mut [u8; 24576],
     room: usize,
 ) -> First
-    ensures { λ r. ⌜ (r ≡ firstOf (shortIn (now (times .entry)) (now (words .entry)) (now (memory .entry)) time (now (packet .entry)) (now (counters .entry)) room))
-        × (now (times .exit) ≡ leftTimes (shortIn (now (times .entry)) (now (words .entry)) (now (memory .entry)) time (now (packet .entry)) (now (counters .entry)) room)
-        (packetCall (stateIn (now (times .entry)) (now (words .entry))) time (now (packet .entry)) (now (counters .entry)) (now (memory .entry)) room) (now (times .entry)))
-        × (now (words .exit) ≡ leftWords (shortIn (now (times .entry)) (now (words .entry)) (now (memory .entry)) time (now (packet .entry)) (now (counters .entry)) room)
-        (packetCall (stateIn (now (times .entry)) (now (words .entry))) time (now (packet .entry)) (now (counters .entry)) (now (memory .entry)) room) (now (words .entry)))
-        × (now (counters .exit) ≡ leftTable (shortIn (now (times .entry)) (now (words .entry)) (now (memory .entry)) time (now (packet .entry)) (now (counters .entry)) room)
-        (packetCall (stateIn (now (times .entry)) (now (words .entry))) time (now (packet .entry)) (now (counters .entry)) (now (memory .entry)) room) (now (counters .entry)))
-        × (now (memory .exit) ≡ leftMemory (shortIn (now (times .entry)) (now (words .entry)) (now (memory .entry)) time (now (packet .entry)) (now (counters .entry)) room)
-        (packetCall (stateIn (now (times .entry)) (now (words .entry))) time (now (packet .entry)) (now (counters .entry)) (now (memory .entry)) room) (now (memory .entry))) ⌝ }
+    ensures { λ r. ⌜ WayDone (shortIn (now (times .entry)) (now (words .entry)) (now (memory .entry)) time (now (packet .entry)) (now (counters .entry)) room)
+        (packetCall (stateIn (now (times .entry)) (now (words .entry))) time (now (packet .entry)) (now (counters .entry)) (now (memory .entry)) room)
+        r (now (times .entry)) (now (times .exit)) (now (words .entry)) (now (words .exit)) (now (counters .entry)) (now (counters .exit)) (now (memory .entry)) (now (memory .exit)) ⌝ }
 {
     let first = quiet::quiet_packet(times, words, time, packet, counters, memory, room);
     if first.done {
         return first;
     }
-    arrival_packet(times, words, time, packet, counters, memory, room)
+    let second = arrival_packet(times, words, time, packet, counters, memory, room);
+    if second.done {
+        return second;
+    }
+    let third = growing::growth_packet(times, words, time, packet, counters, memory, room);
+    if third.done {
+        return third;
+    }
+    ending::ending_packet(times, words, time, packet, counters, memory, room)
 }

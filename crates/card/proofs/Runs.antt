@@ -51,15 +51,16 @@ pub record Own (x : Result) (r : Answer) (l : List ℕ) : Type 0 where
   pub long : length l ≡ 384
   pub first : take (4 * r .n) l ≡ flat numbersOf (x .events)
 
-pub own-numbers : (x : Result) (r : Answer) (z l : List ℕ) → length z ≡ 384 → r ≡ answerOf x → Numbered z l (x .events) → Own x r l
+pub own-numbers : (x : Result) (r : Answer) (z l : List ℕ) → length l ≡ 384 → r ≡ answerOf x → Numbered z l (x .events) → Own x r l
 own-numbers x r z l size e numbered =
     let n : r .n ≡ length (x .events) = ap (λ (a : Answer). a .n) e in
+    let same : length l ≡ length z = ap length (numbered .laid) ∙ laid-length numbersOf 4 z 0 (x .events) in
     record {
       few = omega (arith, numbered .few);
-      long = ap length (numbered .laid) ∙ laid-length numbersOf 4 z 0 (x .events) ∙ size;
+      long = size;
       first =
           ap₂ (λ (k : ℕ) (v : List ℕ). take (4 * k) v) n (numbered .laid)
-          ∙ take-laid z (x .events) (omega (arith, numbered .few));
+          ∙ take-laid z (x .events) (omega (arith, numbered .few, same));
     }
 
 pub own-long : (x : Result) (r : Answer) (l : List ℕ) → Own x r l → length (take (4 * r .n) l) ≡ 4 * r .n

@@ -40,7 +40,8 @@ fn lay(numbers: &mut [u64], at: usize, src: &[u64])
     }
 }
 
-// One packet of a run: its events are laid behind the n that stand there.
+// One packet of a run: its events are laid behind the n that stand there. They are laid in the scratch `own`
+// first, whose content has no meaning between packets.
 fn judge_one(
     state: State,
     time: u64,
@@ -48,6 +49,7 @@ fn judge_one(
     counters: &mut [u8],
     memory: &mut [u8; 24576],
     room: usize,
+    own: &mut [u64; 384],
     numbers: &mut [u64],
     n: usize,
 ) -> Answer
@@ -55,9 +57,9 @@ fn judge_one(
     ensures { λ r. ⌜ JudgedAt (packetCall state time (now (packet .entry)) (now (counters .entry)) (now (memory .entry)) room) room n
         r (now (counters .exit)) (now (memory .exit)) (now (numbers .entry)) (now (numbers .exit)) ⌝ }
 {
-    let mut own = [0u64; 384];
-    let a = engine::packet_at(state, time, packet, counters, memory, room, &mut own);
-    lay(numbers, 4 * n, &own[..4 * a.n]);
+    let a = engine::packet_at(state, time, packet, counters, memory, room, own);
+    let laid: &[u64] = own;
+    lay(numbers, 4 * n, &laid[..4 * a.n]);
     a
 }
 
@@ -75,6 +77,7 @@ fn pass(
         r (now (counters .exit)) (now (memory .exit)) (now (numbers .entry)) (now (numbers .exit)) ⌝ }
 {
     let room = numbers.len() / 4;
+    let mut own = [0u64; 384];
     let mut state = state0;
     let mut n: usize = 0;
     let mut k: usize = 0;
@@ -88,6 +91,7 @@ fn pass(
             counters,
             memory,
             room - n,
+            &mut own,
             numbers,
             n,
         );

@@ -102,7 +102,7 @@ fn run_sound(lost: bool, run: u8) -> bool
 
 // Whether the half-built bytes of a room are still to be built on. A given length may reach past the end
 // of section memory: what is there is judged.
-fn room_sound(memory: &[u8], room: usize, half: u16) -> bool
+pub fn room_sound(memory: &[u8], room: usize, half: u16) -> bool
     requires { ⌜ (length (now memory) ≡ memorySize) × (room < roomCount) ⌝ }
     ensures { λ r. ⌜ r ≡ isMore (stageOf (greatestLength room) (halfBuilt (now (memory .entry)) room half)) ⌝ }
 {

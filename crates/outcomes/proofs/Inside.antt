@@ -37,6 +37,7 @@ use Rattle.programmes.proofs.read_list.Reads as read-list
 use Rattle.programmes.proofs.place_of.Reads as place-of
 use Rattle.programmes.proofs.move_sections.Reads as move-sections
 use Rattle.payloads.proofs.take_payload.Reads as take-payload
+use Rattle.checks.proofs.room_sound.Reads as room-sound
 use Rattle.checks.proofs.rooms_sound.Reads as rooms-sound
 use Rattle.checks.proofs.open_refusal.Reads as open-refusal
 use Rattle.checks.proofs.packet_refusal.Reads as packet-refusal
@@ -50,7 +51,6 @@ use Rattle.engine.proofs.clock_at.Reads as clock-at
 use Rattle.records.proofs.event_at.Reads as event-at
 use Rattle.arrays.proofs.time_count.Reads as time-count
 use Rattle.arrays.proofs.word_count.Reads as word-count
-use Rattle.arrays.proofs.halves_in.Reads as halves-in
 use Rattle.arrays.proofs.state_in.Reads as state-in
 use Rattle.arrays.proofs.lay_times.Reads as lay-times
 use Rattle.arrays.proofs.lay_words.Reads as lay-words
@@ -108,6 +108,7 @@ pub record NoSecondOutcomeInside : Type 0 where
   pub programmes-place-of : (κs : _) → OneAnswer (place-of.Post κs) (λ r. r)
   pub programmes-move-sections : (κs : _) → OneOutcome (move-sections.Post κs) (λ r. r) (λ s. now (s .0))
   pub payloads-take-payload : (κs : _) → OneOutcome (take-payload.Post κs) (λ r. r) (λ s. now (s .1 .0) ∷ now (s .1 .1 .1 .1 .1 .1 .1 .0) ∷ [])
+  pub checks-room-sound : (κs : _) → OneAnswer (room-sound.Post κs) (λ r. r)
   pub checks-rooms-sound : (κs : _) → OneAnswer (rooms-sound.Post κs) (λ r. r)
   pub checks-open-refusal : (κs : _) → OneAnswer (open-refusal.Post κs) (λ r. r)
   pub checks-packet-refusal : (κs : _) → OneAnswer (packet-refusal.Post κs) (λ r. r)
@@ -125,7 +126,6 @@ pub record NoSecondOutcomeInside : Type 0 where
   pub records-hand-over : (κs : _) → OneOutcome (handPromise κs) (λ r. r) (λ s. now (s .1 .1 .0))
   pub arrays-time-count : (κs : _) → OneAnswer (time-count.Post κs) (λ r. r)
   pub arrays-word-count : (κs : _) → OneAnswer (word-count.Post κs) (λ r. r)
-  pub arrays-halves-in : (κs : _) → OneAnswer (halves-in.Post κs) (λ r. r)
   pub arrays-state-in : (κs : _) → OneAnswer (state-in.Post κs) (λ r. r)
   pub arrays-lay-times : (κs : _) → OneOutcome (lay-times.Post κs) (λ r. r) (λ s. now (s .1 .0))
   pub arrays-lay-words : (κs : _) → OneOutcome (lay-words.Post κs) (λ r. r) (λ s. now (s .1 .0))
@@ -190,6 +190,7 @@ no-second-outcome-inside =
       programmes-move-sections = λ κs a r r′ s s′ p q. (both (p .0) (q .0), both (p .1) (q .1));
       payloads-take-payload = λ κs a r r′ s s′ p q.
           (taken-alike r r′ (both (p .0) (q .0)) (both (p .2) (q .2)), places-2 (both (p .1) (q .1)) (both (p .3) (q .3)));
+      checks-room-sound = λ κs a r r′ s s′ p q. both p q;
       checks-rooms-sound = λ κs a r r′ s s′ p q. both p q;
       checks-open-refusal = λ κs a r r′ s s′ p q. both p q;
       checks-packet-refusal = λ κs a r r′ s s′ p q. both p q;
@@ -209,7 +210,6 @@ no-second-outcome-inside =
       records-hand-over = λ κs a r r′ s s′ p q. (both (p .0) (q .0), both (p .1) (q .1));
       arrays-time-count = λ κs a r r′ s s′ p q. both (p .0) (q .0);
       arrays-word-count = λ κs a r r′ s s′ p q. both (p .0) (q .0);
-      arrays-halves-in = λ κs a r r′ s s′ p q. both p q;
       arrays-state-in = λ κs a r r′ s s′ p q. both p q;
       arrays-lay-times = λ κs a r r′ s s′ p q. (refl, both p q);
       arrays-lay-words = λ κs a r r′ s s′ p q. (refl, both p q);

@@ -7,8 +7,9 @@ use arrays::Reply;
 use header::Header;
 pub use value::quiet_value;
 ghost use mathlib.Core.Path.{_≡_};
-ghost use Prim.Native.Nat.{_+_, _≤_, _<_};
-ghost use mathlib.Core.Bool.{false, cond, not, _&&_, _||_};
+ghost use mathlib.Core.List.{List};
+ghost use Prim.Native.Nat.{ℕ, _+_, _-_, _≤_, _<_};
+ghost use mathlib.Core.Bool.{true, false, cond, not, _&&_, _||_};
 ghost use lib.Dec.{eqb, leb};
 ghost use lib.ListN.{length, getD, set, take};
 ghost use Rattle.lists.specs.Places.{part};
@@ -18,7 +19,7 @@ ghost use Rattle.continuity.specs.Continuity.{knownByte, countedOf};
 ghost use Rattle.sections.specs.Rooms.{memorySize};
 ghost use Rattle.programmes.specs.Listing.{lowestPid, nullPid};
 ghost use Rattle.arrays.specs.Lent.{timeCount, wordCount, entryIn, tabled, stateIn};
-ghost use Rattle.calls.specs.Sound.{roomsSound};
+ghost use Rattle.calls.specs.Sound.{roomSound, roomsFrom, roomsSound};
 ghost use Rattle.calls.specs.Calls.{tableSize};
 ghost use Rattle.quiet.specs.Quiet.{gapQuiet, tablesQuiet, entryQuiet, entriesQuiet, unmarked, noneHalf, latestQuiet, stateQuiet, sizesQuiet, countQuiet, packetQuiet, quietCall, quietIn, quietTimes, countedTable, quietTable, firstOf};
 
@@ -90,7 +91,44 @@ fn none_half(words: &[u16]) -> bool
     none
 }
 
-// Whether half-built sections are as refusal 5 has them: mostly there are none.
+// The same of the rooms of the list, in which sections are mostly of one packet.
+fn none_listed(words: &[u16]) -> bool
+    requires { ⌜ length (now words) ≡ wordCount ⌝ }
+    ensures { λ r. ⌜ r ≡ noneHalf (part (now (words .entry)) 37 16) ⌝ }
+{
+    let mut none = true;
+    let mut k: usize = 0;
+    while k < 16 {
+        none = none & (words[37 + k] == 0);
+        k += 1;
+    }
+    none
+}
+
+// A room from which on nothing is half-built.
+fn rooms_used(words: &[u16]) -> usize
+    requires { ⌜ length (now words) ≡ wordCount ⌝ }
+    ensures { λ r. ⌜ (r ≤ 21) × ((m : List ℕ) → roomsFrom (part (now (words .entry)) 32 21) m r (21 - r) ≡ true) ⌝ }
+{
+    if none_listed(words) {
+        return 5;
+    }
+    21
+}
+
+// Whether the half-built bytes of a room are as refusal 5 has them.
+fn room_quiet(words: &[u16], memory: &[u8], room: usize) -> bool
+    requires { ⌜ (length (now words) ≡ wordCount) × (length (now memory) ≡ memorySize) × (room < 21) ⌝ }
+    ensures { λ r. ⌜ r ≡ roomSound (part (now (words .entry)) 32 21) (now (memory .entry)) room ⌝ }
+{
+    let n = words[32 + room];
+    if n == 0 {
+        return true;
+    }
+    checks::room_sound(memory, room, n)
+}
+
+// Whether those of all rooms are: mostly there are none.
 fn rooms_quiet(words: &[u16], memory: &[u8]) -> bool
     requires { ⌜ (length (now words) ≡ wordCount) × (length (now memory) ≡ memorySize) ⌝ }
     ensures { λ r. ⌜ r ≡ roomsSound (part (now (words .entry)) 32 21) (now (memory .entry)) ⌝ }
@@ -98,8 +136,15 @@ fn rooms_quiet(words: &[u16], memory: &[u8]) -> bool
     if none_half(words) {
         return true;
     }
-    let half = arrays::halves_in(words);
-    checks::rooms_sound(half, memory)
+    let top = rooms_used(words);
+    let mut room: usize = 0;
+    while room < top {
+        if !room_quiet(words, memory, room) {
+            return false;
+        }
+        room += 1;
+    }
+    true
 }
 
 // Whether a listed entry is one that refusal 5 passes, quiet, and on another PID than q.

@@ -1,4 +1,5 @@
-//! A multiplex of 60 Mbit/s: so many packets in a hundred carry tables, the others video.
+//! A multiplex of 60 Mbit/s: so many packets in a hundred carry tables, the others pictures and sound, half of them
+//! scrambled, one in twenty with a clock reference, one in twenty a null packet.
 
 use songpigeon_reference::streams::*;
 use songpigeon_reference::testdata::{self, Head, Section, Syntax};
@@ -23,8 +24,7 @@ impl Stream {
             // the first packet lists the programmes in every mix
             let table = k == 0 || k % 100 < share;
             let number = if k == 0 { 0 } else { k / 100 * share + k % 100 };
-            let video = 0x0400 + (k % 37) as u16;
-            add(&mut if table { tables.packet(number) } else { Packet::on(video, 0).bytes() });
+            add(&mut if table { tables.packet(number) } else { other(k) });
         }
         Stream(bytes)
     }
@@ -44,28 +44,45 @@ impl Stream {
     }
 }
 
-/// The tables' packets in turn, with counter 0: PAT, a PMT for each programme, and the SI; a section of 120 bytes fits
-/// one.
+/// The packet number k, of no table, with counter 0.
+fn other(k: usize) -> [u8; 188] {
+    let packet = Packet::on(0x0400 + (k % 37) as u16, 0).scrambled(if k % 2 == 0 { 2 } else { 0 });
+    match k % 20 {
+        7 => Packet::on(NULL_PID, 0).bytes(),
+        13 => packet.field(3, 7, 0x10).bytes(),
+        _ => packet.bytes(),
+    }
+}
+
+/// The tables' packets in turn, with counter 0: PAT, a PMT for each programme, and the SI, of which NIT, SDT and EIT take
+/// two, three and five packets.
 struct Tables(Vec<[u8; 188]>);
 
 impl Tables {
     fn new(programmes: u16) -> Tables {
         let list: Vec<(u16, u16)> = (1..=programmes).map(|n| (n, 0x0100 + n)).collect();
-        let on = |pid, section: Vec<u8>| Packet::sections(pid, 0, &[&section]).bytes();
-        let mut all = vec![on(PAT_PID, pat(&list))];
+        let mut all = packets(PAT_PID, &pat(&list));
         for &(number, pid) in &list {
-            all.push(on(pid, section(0x02, number, &[0x5A; 60])));
+            all.extend(packets(pid, &section(0x02, number, &[0x5A; 60])));
         }
-        all.push(on(NIT_PID, section(0x40, 1, &[0x5A; 108])));
-        all.push(on(SDT_PID, section(0x42, 1, &[0x5A; 108])));
-        all.push(on(EIT_PID, section(0x4E, 1, &[0x5A; 108])));
-        all.push(on(TDT_PID, tdt()));
+        all.extend(packets(NIT_PID, &section(0x40, 1, &[0x5A; 250])));
+        all.extend(packets(SDT_PID, &section(0x42, 1, &[0x5A; 500])));
+        all.extend(packets(EIT_PID, &section(0x4E, 1, &[0x5A; 900])));
+        all.extend(packets(TDT_PID, &tdt()));
         Tables(all)
     }
 
     fn packet(&self, number: usize) -> [u8; 188] {
         self.0[number % self.0.len()]
     }
+}
+
+/// A section in as many packets as it takes, the last filled up with stuffing.
+fn packets(pid: u16, section: &[u8]) -> Vec<[u8; 188]> {
+    let (first, rest) = section.split_at(section.len().min(183));
+    let mut all = vec![Packet::sections(pid, 0, &[first]).bytes()];
+    all.extend(rest.chunks(184).map(|bytes| Packet::on(pid, 0).payload(bytes).bytes()));
+    all
 }
 
 /// A test data section of 4,096 bytes.

@@ -13,9 +13,9 @@ use Rattle.sections.specs.Rooms.{roomBase}
 use Rattle.arrays.specs.Lent.{timesOf, stateIn}
 use Rattle.quiet.specs.Quiet.{firstOf}
 use Rattle.quiet.proofs.Turns.{sizes-lengths}
-use Rattle.arrival.specs.Arrival.{sectionIn, brought, extensionIn, endedGap, arrivalCall, arrivalIn, leftTimes, leftWords, leftTable, leftMemory}
+use Rattle.arrival.specs.Arrival.{sectionIn, brought, extensionIn, endedGap, arrivalCall, arrivalIn}
 use Rattle.arrival.proofs.Calls.{Arriving, arrival-parts}
-use Rattle.arrival.proofs.Lents.{arrival-in, arrival-left}
+use Rattle.arrival.proofs.Lents.{lengths-known, arrival-left}
 use Rattle.arrival.proofs.arrival_packet.Statement.{statement}
 use Rattle.arrival.proofs.arrival_packet.Tie as tie
 
@@ -26,7 +26,7 @@ start c = c .before .before .before .before .before .before .before .before .bef
 abbrev given-in : (c : tie.After-find) → arrivalIn (start c .args .times .now) (start c .args .words .now) (start c .args .memory .now) (start c .args .time) (start c .args .packet .now) (start c .args .counters .now) (start c .args .room) ≡ c .find .result .good
 given-in c =
     let a = start c .args in
-    arrival-in (a .times .now) (a .words .now) (a .memory .now) (a .time) (a .packet .now) (a .counters .now) (a .room) (c .before .before .before .before .before .before .before .before .before .before .before .before .time-count .ensures .1) (c .before .before .before .before .before .before .before .before .before .before .word-count .ensures .1) (c .before .before .before .before .before .before .before .before .memory-size .ensures .1)
+    lengths-known (a .times .now) (a .words .now) (a .memory .now) (arrivalCall (stateIn (a .times .now) (a .words .now)) (a .memory .now) (a .time) (a .packet .now) (a .counters .now) (a .room)) (c .before .before .before .before .before .before .before .before .before .before .before .before .time-count .ensures .1) (c .before .before .before .before .before .before .before .before .before .before .word-count .ensures .1) (c .before .before .before .before .before .before .before .before .memory-size .ensures .1)
     ∙ sym (c .find .ensures .0)
 
 -- where it brings one good section: the parts, and the room

@@ -60,7 +60,7 @@ use Rattle.records.proofs.Rooms.{packetCall-room}
 use Rattle.arrays.specs.Lent.{stateIn}
 use Rattle.arrays.specs.Replies.{replyOf, timesAfter, wordsAfter}
 use Rattle.quiet.specs.Quiet.{firstOf}
-use Rattle.arrival.specs.Arrival.{shortIn, leftTimes, leftWords, leftTable, leftMemory}
+use Rattle.arrival.specs.Short.{shortIn, leftTimes, leftWords, leftTable, leftMemory}
 use Rattle.arrival.proofs.Lents.{short-done, short-wait}
 use Rattle.events.specs.declared.Event.{Event}
 use Rattle.arrays.specs.declared.Reply.{Reply}
