@@ -7,6 +7,8 @@ use songpigeon_reference::testdata::{self, Head, Section, Syntax};
 /// Ticks of 27 MHz from packet to packet.
 const TICKS: u64 = 188 * 8 * 27 / 60;
 
+const HEX: &[u8; 16] = b"0123456789abcdef";
+
 pub struct Stream(Vec<u8>);
 
 impl Stream {
@@ -37,7 +39,7 @@ impl Stream {
         let mut text = b"0\t-\n".to_vec();
         for (time, packet) in self.packets() {
             text.extend(format!("{}\t", time).bytes());
-            text.extend(packet.iter().flat_map(|byte| format!("{:02x}", byte).into_bytes()));
+            text.extend(packet.iter().flat_map(|&byte| [HEX[usize::from(byte >> 4)], HEX[usize::from(byte & 15)]]));
             text.push(b'\n');
         }
         text

@@ -7,7 +7,7 @@ use std::path::Path;
 use std::process::{self, Command, Stdio};
 use std::{env, io};
 
-const LINES: usize = 200_000;
+const LINES: usize = 1_000_000;
 
 fn run_on(program: &Path, log: &Path) -> io::Result<()> {
     let status = Command::new(program).stdin(File::open(log)?).stdout(Stdio::null()).status()?;
