@@ -1,17 +1,15 @@
 -- The state that the arrays of a state hold is that state. Assumes nothing.
 use mathlib.Core.Path.{_≡_, refl, sym, ap, _∙_}
-use mathlib.Core.Bool.{Bool, true, false, cond, not}
+use mathlib.Core.Bool.{Bool, true, false}
 use mathlib.Core.List.{List, [], _∷_, _++_, map, append-assoc}
 use Prim.Native.Nat.{ℕ, zero, suc, _+_, _<_, _≤_}
 use native.Mathlib.Omega.{arith}
-use lib.Dec.{leb}
 use lib.ListN.{length, getD, take, drop, length-append, List·getD-append}
 use lib.Seq.{take-at, drop-at, getD-append-add, ext-getD}
 use borrow.Author.Tests.{le-leb}
 use Rattle.lists.specs.Places.{part}
 use Rattle.watches.specs.declared.Entry.{Entry}
 use Rattle.watches.specs.Tables.{noEntry}
-use Rattle.calls.specs.declared.Core.{Core}
 use Rattle.calls.specs.declared.State.{State}
 use Rattle.arrays.specs.Lent.{lostWord, countWord, lostIn, runIn, entryIn, tabled, timesOf, wordsOf, stateIn}
 use Rattle.arrays.proofs.Tabled.{tabled-length, length-map, getD-map}

@@ -8,7 +8,7 @@ ghost use mathlib.Core.List.{[], _∷_, map};
 ghost use lib.ListN.{length};
 ghost use lib.Seq.{sets};
 ghost use Rattle.lists.specs.Places.{part};
-ghost use Rattle.arrays.specs.Lent.{timeCount, wordCount, lostWord, countWord, lostIn, runIn, tabled, entryIn, timesOf, wordsOf, stateIn};
+ghost use Rattle.arrays.specs.Lent.{timeCount, wordCount, lostWord, countWord, runIn, tabled, entryIn, timesOf, wordsOf, stateIn};
 
 // What a host is told of a call: the refusal number (0: accepted) and the number of events.
 #[repr(C)]

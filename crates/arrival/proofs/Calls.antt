@@ -1,21 +1,19 @@
 -- A packet that brings one good section is what it is said to be: accepted, without an event; the section is laid in its room, its gap ends, the packet's
 -- counter goes into the table, its time becomes the latest, and nothing else changes. Assumes nothing.
-use mathlib.Core.Path.{_≡_, refl, sym, ap, ap₂, _∙_}
+use mathlib.Core.Path.{_≡_, refl, ap, _∙_}
 use mathlib.Core.Bool.{Bool, true, false, cond, not, _&&_, _||_}
-use mathlib.Core.List.{List, [], _∷_}
+use mathlib.Core.List.{List, []}
 use Prim.Native.Nat.{ℕ, _+_, _*_, _%_, _≤_, _<_}
 use native.Mathlib.Omega.{arith}
 use lib.Dec.{leb, ltb, eqb}
-use lib.ListN.{length, getD, set, drop, length-drop}
+use lib.ListN.{length, getD, drop, length-drop}
 use lib.Seq.{drop-drop, getD-drop}
-use borrow.Author.Tests.{leb-true, ltb-true, eqb-true, ne-eqb, lt-ltb, not-true}
+use borrow.Author.Tests.{leb-true, ltb-true, eqb-true, not-true}
 use Rattle.lists.specs.Places.{part}
 use Rattle.lists.proofs.Tests.{and-left, and-right}
 use Rattle.lists.proofs.Places.{part-at}
-use Rattle.events.specs.Faults.{continuityError, transportError}
-use Rattle.watches.specs.Tables.{patPid, latestTime}
-use Rattle.header.specs.Header.{packetSize, rightSync, errorBit, unitStart, scrambledBits, controlOf, pidOf, payloadPlace, payloadOf}
-use Rattle.continuity.specs.declared.Counted.{Counted}
+use Rattle.watches.specs.Tables.{patPid}
+use Rattle.header.specs.Header.{packetSize, rightSync, errorBit, unitStart, scrambledBits, controlOf, pidOf}
 use Rattle.continuity.specs.Continuity.{knownByte}
 use Rattle.sections.specs.Rooms.{memorySize, roomCount, patRoom}
 use Rattle.sections.specs.Section.{sectionLength}
@@ -23,13 +21,12 @@ use Rattle.programmes.specs.Listing.{nullPid}
 use Rattle.programmes.specs.Places.{halfAt}
 use Rattle.calls.specs.declared.State.{State}
 use Rattle.calls.specs.Cores.{roomFor, withHalf, droppedRoom}
-use Rattle.calls.specs.Steps.{Step, Absorbed, also, packetEvents, counted, sectionsTaken, scramblingEvents, step2, step3, step4, step5}
+use Rattle.calls.specs.Steps.{Absorbed, counted, sectionsTaken}
 use Rattle.calls.specs.Calls.{heldOf, packetCall}
-use Rattle.calls.proofs.Accepted.{PacketAccepted}
 use Rattle.quiet.specs.Quiet.{stateQuiet, sizesQuiet, countedTable}
 use Rattle.arrival.specs.Arrival.{headBrings, countBrings, sectionEnd, sectionIn, aloneIn, roomOpen, isGoodOutcome, brought, arrivalCall, arrivedCore, arrivedMemory}
 use Rattle.quiet.proofs.Turns.{passed, sizes-lengths}
-use Rattle.quiet.proofs.Calls.{QuietState, state-parts, quiet-sound, sizes-rest, calm-call}
+use Rattle.quiet.proofs.Calls.{QuietState, state-parts}
 use Rattle.arrival.proofs.Clear.{Clear, clear-call}
 use Rattle.arrival.proofs.Brought.{Stuffed, stuffed-at, half-stays, one-brought}
 

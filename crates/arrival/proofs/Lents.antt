@@ -9,7 +9,7 @@ use lib.Dec.{eqb}
 use lib.ListN.{length, getD, set}
 use lib.Seq.{set-append-left}
 use borrow.Author.Tests.{eqb-true, eq-eqb}
-use Rattle.lists.specs.Places.{front, part}
+use Rattle.lists.specs.Places.{front}
 use Rattle.lists.proofs.Places.{part-length}
 use Rattle.lists.proofs.Tests.{and-left, and-right}
 use Rattle.watches.specs.declared.Entry.{Entry}
@@ -23,7 +23,7 @@ use Rattle.calls.specs.declared.State.{State}
 use Rattle.calls.specs.Steps.{touched, arrivedTable, arrivedProgramme}
 use Rattle.calls.specs.Cores.{roomFor, withHalf}
 use Rattle.calls.specs.Calls.{Result, answerOf, packetCall}
-use Rattle.arrays.specs.Lent.{timeCount, wordCount, lostWord, countWord, entryIn, tabled, timesOf, wordsOf, stateIn}
+use Rattle.arrays.specs.Lent.{timeCount, wordCount, lostWord, countWord, entryIn, timesOf, wordsOf, stateIn}
 use Rattle.arrays.specs.Replies.{replyOf, timesAfter, wordsAfter}
 use Rattle.arrays.proofs.Tabled.{tabled-length, length-map}
 use Rattle.quiet.specs.declared.First.{First}

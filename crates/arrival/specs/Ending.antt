@@ -13,7 +13,7 @@
 --   endingCall, endingIn == the call is such, in a state by value or in two arrays
 --   endedCore, endedMemory == the core and section memory after it
 use Prim.Native.Nat.{ℕ, _+_, _-_}
-use mathlib.Core.Bool.{Bool, true, false, cond, not, _&&_}
+use mathlib.Core.Bool.{Bool, false, cond, not, _&&_}
 use mathlib.Core.List.{List, _++_}
 use lib.Dec.{leb, ltb, eqb}
 use lib.ListN.{length, set, take, drop}

@@ -11,7 +11,7 @@
 --   growthCall, growthIn == the call is such, in a state by value or in two arrays
 --   grownCore, grownMemory == the core and section memory after it
 use Prim.Native.Nat.{ℕ, _+_}
-use mathlib.Core.Bool.{Bool, true, false, cond, not, _&&_}
+use mathlib.Core.Bool.{Bool, false, cond, not, _&&_}
 use mathlib.Core.List.{List}
 use lib.Dec.{leb, ltb, eqb}
 use lib.ListN.{length, getD, set, drop}

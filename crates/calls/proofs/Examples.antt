@@ -1,9 +1,9 @@
 -- Examples that a wrong definition of a call would break. Assumes nothing.
 use mathlib.Core.Path.{_≡_, refl}
-use mathlib.Core.Bool.{Bool, true, false}
+use mathlib.Core.Bool.{true, false}
 use mathlib.Core.List.{List, [], _∷_, _++_}
 use Prim.Native.Nat.{ℕ, suc, _^_}
-use lib.ListN.{getD, set, replicate}
+use lib.ListN.{getD, replicate}
 use Rattle.lists.specs.Places.{part}
 use Rattle.watches.specs.declared.Entry.{Entry}
 use Rattle.header.specs.Header.{headerOf}
@@ -12,7 +12,6 @@ use Rattle.sections.specs.Section.{stageOf}
 use Rattle.sections.specs.Building.{fed, built}
 use Rattle.sections.specs.Outcomes.{crcWrong, wholeOutcome}
 use Rattle.programmes.specs.Places.{placeOf}
-use Rattle.calls.specs.declared.Core.{Core}
 use Rattle.calls.specs.Cores.{Held, fixedRoom, roomFor, opened, openedState}
 use Rattle.calls.specs.Sync.{syncedOf, withSync}
 use Rattle.calls.specs.Steps.{touched, absorbedAll, sectionsTaken, step1}

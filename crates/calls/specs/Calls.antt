@@ -8,15 +8,15 @@
 --   openAnswer, answerOf             == what is answered by value: refusal number, number of events, state
 --   handedOver es old                == the event list after a call: its events, then the records as they were
 use Prim.Native.Nat.{ℕ}
-use mathlib.Core.Bool.{Bool, true, false, cond, not, _&&_}
-use mathlib.Core.List.{List, [], _∷_, _++_}
-use lib.Dec.{leb, ltb, eqb}
+use mathlib.Core.Bool.{Bool, cond, _&&_}
+use mathlib.Core.List.{List, [], _++_}
+use lib.Dec.{ltb, eqb}
 use lib.ListN.{length, drop, replicate}
 use Rattle.events.specs.declared.Event.{Event}
 use Rattle.header.specs.Header.{packetSize}
 use Rattle.calls.specs.declared.State.{State}
 use Rattle.calls.specs.declared.Answer.{Answer}
-use Rattle.calls.specs.Cores.{Held, lateOf, opened, openedState}
+use Rattle.calls.specs.Cores.{Held, lateOf, openedState}
 use Rattle.calls.specs.Steps.{Step, step1}
 use Rattle.calls.specs.Sound.{timeSound, stateSound, byteSound}
 

@@ -8,10 +8,10 @@
 --   lateOf p t c    == the late events of a call at t after the latest accepted time p: the fixed tables', then the programmes' in list order
 --   opened t        == the core of an opening at t: in sync, the fixed watches begin, nothing listed, nothing half-built
 use Prim.Native.Nat.{ℕ, suc}
-use mathlib.Core.Bool.{Bool, true, false, cond}
+use mathlib.Core.Bool.{false, cond}
 use mathlib.Core.List.{List, [], _∷_, _++_}
 use lib.Dec.{eqb, ltb}
-use lib.ListN.{length, getD, set, take, replicate}
+use lib.ListN.{length, set, take, replicate}
 use Rattle.events.specs.declared.Event.{Event}
 use Rattle.watches.specs.declared.Entry.{Entry}
 use Rattle.watches.specs.Tables.{Table, fixedTables, noEntry}

@@ -14,10 +14,10 @@
 --   payloadTaken      == the packet's is, where sections of its PID are built
 --   step5 .. step1    == each step, and what follows it
 use Prim.Native.Nat.{ℕ}
-use mathlib.Core.Bool.{Bool, true, false, cond, _&&_, _||_}
+use mathlib.Core.Bool.{Bool, cond, _&&_, _||_}
 use mathlib.Core.List.{List, [], _∷_, _++_, map}
-use lib.Dec.{eqb, leb, ltb}
-use lib.ListN.{length, getD, set, take}
+use lib.Dec.{eqb, ltb}
+use lib.ListN.{getD, set, take}
 use Rattle.lists.specs.Places.{front}
 use Rattle.events.specs.declared.Event.{Event}
 use Rattle.events.specs.Faults as fault
@@ -37,7 +37,7 @@ use Rattle.programmes.specs.Listing.{nullPid, isPair, listOf}
 use Rattle.programmes.specs.Places.{isListed, halfAt, movedHalves, movedBytes}
 use Rattle.calls.specs.declared.Core.{Core}
 use Rattle.calls.specs.Cores.{listed, Held, roomFor, withHalf, droppedRoom}
-use Rattle.calls.specs.Sync.{Synced, syncedOf}
+use Rattle.calls.specs.Sync.{syncedOf}
 
 pub record Step : Type 0 where
   pub held : Held

@@ -1,9 +1,9 @@
 -- Calls of a host join: the state that the arrays hold after a call is the state of its answer, and so the next call is given what this one left.
 -- Assumes nothing.
-use mathlib.Core.Path.{_≡_, refl, sym, ap, _∙_}
+use mathlib.Core.Path.{_≡_, refl, sym, ap}
 use mathlib.Core.Bool.{Bool, true, false, cond}
 use mathlib.Core.List.{List, [], _∷_}
-use Prim.Native.Nat.{ℕ, suc, _-_, _*_}
+use Prim.Native.Nat.{ℕ, _-_, _*_}
 use native.Mathlib.Omega.{arith}
 use lib.Dec.{eqb}
 use lib.ListN.{length, take, drop}
@@ -19,7 +19,7 @@ use Rattle.arrays.specs.Lent.{timesOf, wordsOf, stateIn}
 use Rattle.arrays.proofs.Back.{Shaped, state-back}
 use Rattle.arrays.proofs.Shapes.{zero-or, packet-shaped, clock-shaped, opened-shaped}
 use Rattle.arrays.specs.Replies.{timesAfter, wordsAfter}
-use Rattle.card.specs.Runs.{Run, stands, stopped, behind, after, passed, runCall, timesPast, wordsPast}
+use Rattle.card.specs.Runs.{Run, stands, stopped, behind, passed, runCall, timesPast, wordsPast}
 
 -- A REFUSED CALL hands back the state it was given
 module _ (s : State) (t : ℕ) where

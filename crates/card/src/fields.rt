@@ -11,8 +11,8 @@ ghost use mathlib.Core.Path.{_≡_};
 ghost use lib.ListN.{length};
 ghost use Rattle.severity.specs.Severity.{severityOf};
 ghost use Rattle.testdata.specs.Reader.{readOf, refusalOf};
-ghost use Rattle.testdata.specs.Writer.{writeAnswer, writeMemory, numberOf};
-ghost use Rattle.card.specs.Fields.{fieldBytes, fieldsIn, headIn, syntaxIn, placeNumbers, fieldsAfter, placesAfter, laidOf};
+ghost use Rattle.testdata.specs.Writer.{writeAnswer, writeMemory};
+ghost use Rattle.card.specs.Fields.{fieldBytes, fieldsIn, placeNumbers, fieldsAfter, placesAfter, laidOf};
 
 // Severity classes of a gap, by A/78.
 #[no_mangle]

@@ -10,10 +10,9 @@ ghost use Prim.Native.Nat.{_+_, _*_, _/_, _≤_};
 ghost use lib.Dec.{eqb};
 ghost use lib.ListN.{length};
 ghost use lib.Seq.{sets};
-ghost use Rattle.events.specs.Events.{eventsLaid};
 ghost use Rattle.header.specs.Header.{packetSize};
 ghost use Rattle.arrays.specs.Lent.{stateIn, timesOf, wordsOf};
-ghost use Rattle.calls.specs.Calls.{packetCall, answerOf};
+ghost use Rattle.calls.specs.Calls.{packetCall};
 ghost use Rattle.card.specs.Runs.{passed, runCall, RunDone};
 ghost use Rattle.card.specs.Passing.{JudgedAt, Gone};
 

@@ -14,7 +14,7 @@
 --   countedOf b h  == step 4 whole: with a wrong length there is no payload to take, and control 11 also drops the half-built section
 use Prim.Native.Nat.{ℕ, _+_, _%_}
 use mathlib.Core.Bool.{Bool, true, false, cond, not, _&&_, _||_}
-use lib.Dec.{leb, eqb, ltb}
+use lib.Dec.{leb, eqb}
 use Rattle.header.specs.declared.Header.{Header}
 use Rattle.continuity.specs.declared.Counted.{Counted}
 

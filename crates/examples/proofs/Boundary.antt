@@ -1,9 +1,8 @@
 -- The boundary examples of document 01, P1 to P10, as one table, computed from the definitions themselves. Assumes nothing.
 use mathlib.Core.Path.{_≡_, refl}
-use mathlib.Core.Bool.{Bool, true, false}
 use mathlib.Core.List.{List, [], _∷_, _++_, map}
 use Prim.Native.Nat.{ℕ, zero, suc, _+_}
-use lib.ListN.{length, getD, replicate}
+use lib.ListN.{getD, replicate}
 use Rattle.crc.specs.Crc.{crcStep, crcFeed, bits, bitsOf, crcOf}
 use Rattle.lists.specs.Places.{part}
 use Rattle.lateness.specs.Logs.{Call, clock, packet}
@@ -24,7 +23,7 @@ use Rattle.calls.specs.Cores.{fixedRoom, roomFor, lateOf}
 use Rattle.calls.specs.Steps.{absorbedAll, sectionsTaken, step1}
 use Rattle.calls.specs.Sound.{timesSound, numberAmong, entriesSound, roomsFrom, stateSound}
 use Rattle.calls.specs.Calls.{packetRefusal, clockRefusal, packetCall, clockCall}
-use Rattle.examples.specs.Packets.{packetOf, entry, patOf, starting, resultsFrom, results, refusals, events, cores}
+use Rattle.examples.specs.Packets.{packetOf, entry, patOf, starting, resultsFrom, refusals, events, cores}
 
 -- PACKETS
 abbrev patAt : ℕ → Call (List ℕ)

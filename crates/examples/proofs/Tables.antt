@@ -1,12 +1,12 @@
 -- Worked examples of docs/DECISIONS.md: the tables of each PID, shared PIDs, and what refusal 5 judges. Assumes nothing.
 use mathlib.Core.Path.{_≡_, refl}
-use mathlib.Core.Bool.{Bool, true, false}
+use mathlib.Core.Bool.{false}
 use mathlib.Core.List.{List, [], _∷_, _++_, map}
 use Prim.Native.Nat.{ℕ, suc, _-_, _^_}
-use lib.ListN.{length, getD, set, take, drop, replicate}
+use lib.ListN.{length, getD, set, replicate}
 use Rattle.crc.specs.Crc.{crcStep, crcFeed, bits, bitsOf, crcOf}
 use Rattle.lists.specs.Places.{part}
-use Rattle.lateness.specs.Logs.{Call, clock, packet}
+use Rattle.lateness.specs.Logs.{Call, packet}
 use Rattle.events.specs.declared.Event.{Event}
 use Rattle.events.specs.Events.{eventAt}
 use Rattle.watches.specs.declared.Entry.{Entry}
@@ -21,11 +21,11 @@ use Rattle.programmes.specs.Listing.{isNumber, sinceOf, readOn, listOf}
 use Rattle.programmes.specs.Places.{placeOf, movedFrom, movedPlaces}
 use Rattle.calls.specs.declared.Core.{Core}
 use Rattle.calls.specs.declared.State.{State}
-use Rattle.calls.specs.Cores.{fixedRoom, roomFor, lateOf, opened, openedState}
+use Rattle.calls.specs.Cores.{fixedRoom, roomFor, lateOf, openedState}
 use Rattle.calls.specs.Steps.{absorbedAll, sectionsTaken, step1}
 use Rattle.calls.specs.Sound.{timesSound, numberAmong, entriesSound, roomsFrom, stateSound}
-use Rattle.calls.specs.Calls.{openRefusal, packetRefusal, clockRefusal, packetCall, clockCall, tableSize, leastRoom}
-use Rattle.examples.specs.Packets.{stuffed, packetOf, adapted, sealed, entry, patOf, pmtOf, longTable, shortTable, starting, resultsFrom, results, refusals, events, cores}
+use Rattle.calls.specs.Calls.{openRefusal, packetRefusal, clockRefusal, packetCall, clockCall}
+use Rattle.examples.specs.Packets.{packetOf, entry, patOf, longTable, shortTable, starting, resultsFrom, events, cores}
 
 -- PACKETS
 abbrev begun : ℕ → ℕ → ℕ → List ℕ → Call (List ℕ)

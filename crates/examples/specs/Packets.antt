@@ -9,7 +9,6 @@
 --   starting s          == the payload of a packet that the section s begins
 --   results, refusals, events, cores == of the calls of a log from an opening at 0, one by one
 use Prim.Native.Nat.{ℕ, _+_, _-_, _*_, _/_, _%_}
-use mathlib.Core.Bool.{Bool, true, false, cond}
 use mathlib.Core.List.{List, [], _∷_, _++_, map}
 use lib.ListN.{length, replicate}
 use Rattle.crc.specs.Crc.{crcOf, crcBytes}

@@ -2,10 +2,9 @@
 use mathlib.Core.Path.{_≡_, refl}
 use mathlib.Core.Bool.{Bool, true, false, cond, _&&_, _||_}
 use mathlib.Core.List.{List}
-use Prim.Native.Nat.{ℕ, _+_, _/_, _%_, _≤_, _<_}
+use Prim.Native.Nat.{ℕ, _+_, _≤_, _<_}
 use native.Mathlib.Omega.{arith}
 use lib.Dec.{leb, eqb}
-use lib.ListN.{getD}
 use borrow.Author.Tests.{leb-true, eqb-true}
 use Rattle.lists.proofs.Tests.{cond-either}
 use Rattle.header.specs.Header.{packetSize, rightLength, payloadPlace, payloadAt, controlOf, adaptationLength, counterOf}

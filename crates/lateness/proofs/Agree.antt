@@ -1,5 +1,5 @@
 -- The two judgements of lateness agree, for any list of rising limits. Assumes nothing.
-use mathlib.Core.Path.{_≡_, refl, sym, ap, _∙_}
+use mathlib.Core.Path.{_≡_, refl, sym, ap}
 use mathlib.Core.Bool.{Bool, true, false, _&&_}
 use mathlib.Core.List.{List, [], _∷_, _++_, append-assoc, append-nil}
 use Prim.Native.Nat.{ℕ, _+_, _-_, _≤_, _<_}
@@ -7,7 +7,7 @@ use native.Mathlib.Omega.{arith}
 use lib.Dec.{ltb, leb}
 use borrow.Author.Tests.{lt-ltb, le-ltb, le-leb, lt-leb}
 use Rattle.lists.proofs.Tests.{Order, below, from, order}
-use Rattle.lateness.specs.Gaps.{keep, gap, gaps, Life, judged, due, Watch, off, on, dueOf, Act, begins, arrives, ends, after, Seen, tick, act, live, View, unwatched, watched, lived, lives, RisingFrom, Rising, Ordered, Fresh, viewOf}
+use Rattle.lateness.specs.Gaps.{gap, gaps, judged, due, Watch, off, on, begins, arrives, ends, Seen, tick, act, live, View, unwatched, watched, lives, RisingFrom, Rising, Ordered, Fresh, viewOf}
 
 -- the test of `due`, by where the stamp x lies
 within : (p x t : ℕ) → p ≤ x → x < t → (leb p x && ltb x t) ≡ true

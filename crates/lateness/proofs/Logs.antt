@@ -3,9 +3,9 @@
 use mathlib.Core.Path.{_≡_, refl, sym, ap, ap₂, _∙_}
 use mathlib.Core.Bool.{Bool, true, false}
 use mathlib.Core.List.{List, [], _∷_, _++_, map}
-use Prim.Native.Nat.{ℕ, _≤_}
-use Rattle.lateness.specs.Gaps.{Rising, Watch, off, on, dueOf, Act, begins, arrives, ends, after, acted, Seen, tick, act, live, Ordered, View, unwatched, watched, lived, lives, judged, Fresh, viewOf}
-use Rattle.lateness.specs.Logs.{Call, clock, packet, timeOf, InOrder, step, lateLog, packetLog, seen, orClock, only, Every, Padded, none, same, extra}
+use Prim.Native.Nat.{ℕ}
+use Rattle.lateness.specs.Gaps.{Rising, Watch, dueOf, Act, begins, arrives, ends, after, acted, Seen, act, live, Ordered, View, unwatched, watched, lived, lives, judged, Fresh, viewOf}
+use Rattle.lateness.specs.Logs.{Call, clock, packet, InOrder, lateLog, packetLog, seen, orClock, only, Every, Padded, none, same, extra}
 use Rattle.lateness.proofs.Agree.{agree}
 
 pub live-acts : (ls : List ℕ) (p : ℕ) (az : List Act) (w : Watch) (os : List Seen) → live ls p w (map act az ++ os) ≡ live ls p (acted p w az) os

@@ -8,7 +8,7 @@ use native.Mathlib.Nat.{add-zero, le-of-suc-le-suc, not-suc-le-zero}
 use native.Mathlib.Numerals.{add-one}
 use native.Mathlib.Omega.{arith}
 use lib.Dec.{ltb, eqb}
-use lib.ListN.{length, getD, set, take, drop, drop-of-length-le}
+use lib.ListN.{length, getD, set, take, drop-of-length-le}
 use lib.Seq.{sets, set-getD, getD-take, getD-append-add, length-take-le, sets-eq}
 use borrow.Author.Tests.{lt-ltb, le-ltb, eq-eqb, ne-eqb, ltb-true, eqb-true}
 use Rattle.lists.specs.Places.{part}
@@ -20,7 +20,7 @@ use Rattle.watches.specs.Tables.{noEntry}
 use Rattle.sections.specs.Rooms.{memorySize, roomOfPlace, roomBase, halfBuilt}
 use Rattle.sections.proofs.Stages.{place-fits}
 use Rattle.programmes.specs.Places.{placeOf, isListed, pidAt, isFirst, halfAt, movedHalf, movedFrom, movedHalves, movedPlace, movedPlaces}
-use Rattle.programmes.specs.Moving.{PlacedAt, Placed, Stayed}
+use Rattle.programmes.specs.Moving.{Placed, Stayed}
 
 -- the PID of a listed place
 pub pid-listed : (new : List Entry) (d k : ℕ) → k < d → pidAt (take d new) k ≡ getD new k noEntry .pid

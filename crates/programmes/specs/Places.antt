@@ -9,7 +9,7 @@
 --   movedHalves      == all half-built lengths: those of the fixed rooms as they were, then those of the sixteen places
 --   movedBytes       == section memory, the half-built bytes of each place of the new list taken from where they stood in the old one
 use Prim.Native.Nat.{ℕ, zero, suc, _+_}
-use mathlib.Core.Bool.{Bool, true, false, cond, _&&_}
+use mathlib.Core.Bool.{Bool, cond, _&&_}
 use mathlib.Core.List.{List, [], _∷_, _++_}
 use lib.Dec.{ltb, eqb}
 use lib.ListN.{length, getD, take}

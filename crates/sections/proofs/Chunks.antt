@@ -1,20 +1,19 @@
 -- The machine that is fed bytes goes by whole sections: a section step takes it to the end of the section at hand. Assumes nothing.
 use mathlib.Core.Path.{_≡_, refl, sym, ap, ap₂, _∙_}
-use mathlib.Core.Bool.{Bool, true, false, cond, _&&_, true≢false}
+use mathlib.Core.Bool.{true, false, cond, _&&_, true≢false}
 use mathlib.Core.List.{List, [], _∷_, _++_, append-nil, append-assoc}
-use Prim.Native.Nat.{ℕ, zero, suc, _+_, _≤_, _<_}
+use Prim.Native.Nat.{ℕ, suc, _+_, _≤_, _<_}
 use native.Mathlib.Nat.{add-zero}
 use native.Mathlib.Omega.{arith}
 use lib.Dec.{eqb}
-use lib.ListN.{length, set, take, drop, length-set}
-use lib.Seq.{sets}
+use lib.ListN.{length, take, drop, length-set}
 use borrow.Author.Tests.{ne-eqb}
-use Rattle.lists.proofs.Places.{part-set, part-length}
+use Rattle.lists.proofs.Places.{part-set}
 use Rattle.sections.specs.declared.Stage.{Stage}
 use Rattle.sections.specs.declared.Stage.the-variants.{More, Bad, Whole}
 use Rattle.sections.specs.Rooms.{roomBase, greatestLength, halfBuilt}
 use Rattle.sections.specs.Section.{stageOf, isMore}
-use Rattle.sections.specs.Building.{Mode, going, done, fresh, stopped, Finished, badLength, whole, Job, laidByte, ended, settled, inMode, fedBy, fed}
+use Rattle.sections.specs.Building.{Mode, going, fresh, Job, laidByte, ended, settled, fedBy, fed}
 use Rattle.sections.specs.Steps.{takenBy, laidIn}
 use Rattle.sections.proofs.Stages.{half-short}
 

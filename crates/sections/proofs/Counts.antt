@@ -1,11 +1,11 @@
 -- How many sections a payload finishes: the one that went on, and then one for every three bytes. Assumes nothing.
 use mathlib.Core.Path.{_≡_, refl, sym, ap, _∙_}
 use mathlib.Core.Bool.{Bool, true, false, cond, _&&_, true≢false}
-use mathlib.Core.List.{List, [], _∷_, _++_}
-use Prim.Native.Nat.{ℕ, zero, suc, _+_, _-_, _*_, _≤_, _<_}
+use mathlib.Core.List.{List, [], _∷_}
+use Prim.Native.Nat.{ℕ, _+_, _-_, _*_, _≤_}
 use native.Mathlib.Omega.{arith}
 use lib.Dec.{ltb, eqb}
-use lib.ListN.{length, getD, set, take, drop, length-append, length-take, length-drop}
+use lib.ListN.{length, take, drop, length-append, length-take, length-drop}
 use borrow.Author.Tests.{ltb-true}
 use Rattle.lists.specs.Places.{part}
 use Rattle.lists.proofs.Tests.{Order, below, from, order}
@@ -13,7 +13,7 @@ use Rattle.sections.specs.declared.Stage.{Stage}
 use Rattle.sections.specs.declared.Stage.the-variants.{More, Bad, Whole}
 use Rattle.sections.specs.Rooms.{roomBase, greatestLength, halfBuilt}
 use Rattle.sections.specs.Section.{stageOf, isMore}
-use Rattle.sections.specs.Building.{Mode, going, done, fresh, stopped, Finished, badLength, whole, Job, laidByte, ended, settled, inMode, fedBy, fed, resumed, restarted, pointerOf, pointed, emptied, begunJob, built}
+use Rattle.sections.specs.Building.{Mode, going, done, fresh, stopped, badLength, whole, Job, laidByte, ended, settled, inMode, fedBy, fed, resumed, restarted, pointerOf, emptied, begunJob, built}
 use Rattle.sections.proofs.Stages.{stage-few}
 
 -- BYTES THAT ARE IGNORED

@@ -1,5 +1,5 @@
 -- A section step: how many bytes go to the section at hand, and how far it is then. Assumes nothing.
-use mathlib.Core.Path.{_≡_, refl, sym, ap, _∙_}
+use mathlib.Core.Path.{_≡_, sym, ap, _∙_}
 use mathlib.Core.Bool.{Bool, true, false, cond, true≢false}
 use mathlib.Core.List.{List, [], _∷_, _++_, append-nil, append-assoc}
 use Prim.Native.Nat.{ℕ, zero, suc, _+_, _-_, _≤_, _<_}
@@ -11,11 +11,11 @@ use lib.Seq.{take-suc, take-add, drop-cons, take-length, drop-length, length-tak
 use borrow.Author.Tests.{lt-ltb, le-ltb}
 use Rattle.lists.proofs.Tests.{Order, below, from, order}
 use Rattle.sections.specs.declared.Stage.{Stage}
-use Rattle.sections.specs.declared.Stage.the-variants.{More, Bad, Whole}
+use Rattle.sections.specs.declared.Stage.the-variants.{More, Whole}
 use Rattle.sections.specs.declared.Laid.{Laid}
 use Rattle.sections.specs.Section.{sectionLength, stageOf, isMore}
 use Rattle.sections.specs.Steps.{takenBy, laidOf}
-use Rattle.sections.proofs.Stages.{Known, more-known, stage-few, stage-grown}
+use Rattle.sections.proofs.Stages.{more-known, stage-few, stage-grown}
 
 module _ (top : ℕ) where
   -- the section goes on through the first k bytes

@@ -1,9 +1,9 @@
 -- What feeding bytes to a section leaves as it was: the sections finished before, the room's soundness, and memory outside the room.
 -- Assumes nothing.
-use mathlib.Core.Path.{_≡_, refl, sym, ap, _∙_}
+use mathlib.Core.Path.{_≡_, refl, ap, _∙_}
 use mathlib.Core.Bool.{Bool, true, false, cond, _&&_}
 use mathlib.Core.List.{List, [], _∷_, _++_, append-assoc}
-use Prim.Native.Nat.{ℕ, zero, suc, _+_, _≤_, _<_}
+use Prim.Native.Nat.{ℕ, _+_, _≤_, _<_}
 use native.Mathlib.Omega.{arith}
 use lib.Dec.{eqb}
 use lib.ListN.{length, set, length-set}
@@ -12,7 +12,7 @@ use Rattle.sections.specs.declared.Stage.{Stage}
 use Rattle.sections.specs.declared.Stage.the-variants.{More, Bad, Whole}
 use Rattle.sections.specs.Rooms.{memorySize, roomCount, roomBase, greatestLength, halfBuilt}
 use Rattle.sections.specs.Section.{stageOf, isMore}
-use Rattle.sections.specs.Building.{Mode, going, done, fresh, stopped, Finished, badLength, whole, Job, afterWhole, laidByte, ended, settled, inMode, fedBy, fed}
+use Rattle.sections.specs.Building.{Mode, going, done, fresh, stopped, Finished, badLength, whole, Job, laidByte, ended, settled, inMode, fedBy, fed}
 use Rattle.sections.proofs.Stages.{stage-few, half-short, room-fits}
 
 -- a byte goes to the section at hand, or stuffing begins

@@ -1,18 +1,17 @@
 -- How far a section is, as its bytes come. Assumes nothing.
 use mathlib.Core.Path.{_≡_, refl, sym, ap, _∙_}
-use mathlib.Core.Bool.{Bool, true, false, cond, _&&_, _||_, true≢false}
-use mathlib.Core.List.{List, [], _∷_, _++_}
-use Prim.Native.Nat.{ℕ, zero, suc, _+_, _*_, _%_, _≤_, _<_}
+use mathlib.Core.Bool.{Bool, true, false, cond, true≢false}
+use mathlib.Core.List.{List, _++_}
+use Prim.Native.Nat.{ℕ, _+_, _≤_, _<_}
 use native.Mathlib.Omega.{arith}
-use lib.Dec.{leb, ltb, eqb}
-use lib.ListN.{length, getD, drop, length-append, List·getD-append, length-take, length-drop}
+use lib.Dec.{leb, ltb}
+use lib.ListN.{length, drop, length-append, List·getD-append, length-take, length-drop}
 use borrow.Author.Tests.{lt-ltb, le-ltb, ne-eqb, ltb-true, ltb-false, leb-true}
 use Rattle.lists.specs.Places.{part}
 use Rattle.lists.proofs.Tests.{Order, below, from, order}
 use Rattle.lists.proofs.Table.{passes-at}
-use Rattle.sections.specs.declared.Stage.{Stage}
 use Rattle.sections.specs.declared.Stage.the-variants.{More, Bad, Whole}
-use Rattle.sections.specs.Rooms.{memorySize, roomCount, roomOfPlace, roomBase, greatestLength, halfBuilt}
+use Rattle.sections.specs.Rooms.{memorySize, roomCount, roomOfPlace, roomBase, greatestLength}
 use Rattle.sections.specs.Section.{sectionLength, lengthBad, stageOf, isMore}
 
 pub stage-few : (top : ℕ) (h : List ℕ) → length h < 3 → stageOf top h ≡ More

@@ -9,9 +9,9 @@
 --   outcomeOf r pid f  == the outcome of a finished section of the room r on a PID
 --   eventsOf t o       == the event of an outcome at the time t, if it has one
 use Prim.Native.Nat.{ℕ}
-use mathlib.Core.Bool.{Bool, true, false, cond, not, _&&_, _||_}
+use mathlib.Core.Bool.{Bool, cond, not, _&&_, _||_}
 use mathlib.Core.List.{List, [], _∷_}
-use lib.Dec.{leb, ltb, eqb}
+use lib.Dec.{leb, eqb}
 use lib.ListN.{length, getD}
 use Rattle.crc.specs.Crc.{crcOf}
 use Rattle.events.specs.declared.Event.{Event}

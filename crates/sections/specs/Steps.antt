@@ -6,7 +6,7 @@
 --   laidIn r m n s  == section memory with the bytes s laid behind the n half-built ones of the room r
 --   stepOutcome     == what a section step says: unfinished, or what the section at its end says
 use Prim.Native.Nat.{ℕ, suc, _+_}
-use mathlib.Core.Bool.{Bool, true, false, cond}
+use mathlib.Core.Bool.{cond}
 use mathlib.Core.List.{List, [], _∷_, _++_}
 use lib.ListN.{take}
 use lib.Seq.{sets}
@@ -14,7 +14,7 @@ use Rattle.sections.specs.declared.Stage.{Stage}
 use Rattle.sections.specs.declared.Stage.the-variants.{More, Bad, Whole}
 use Rattle.sections.specs.declared.Laid.{Laid}
 use Rattle.sections.specs.declared.Outcome.{Outcome}
-use Rattle.sections.specs.declared.Outcome.the-variants.{Unfinished, Good, Fault, Silent}
+use Rattle.sections.specs.declared.Outcome.the-variants.{Unfinished}
 use Rattle.sections.specs.Rooms.{roomBase}
 use Rattle.sections.specs.Section.{stageOf, isMore}
 use Rattle.sections.specs.Building.{badLength, whole}

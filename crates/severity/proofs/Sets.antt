@@ -1,15 +1,14 @@
 -- Every set of classes, by one computed test over all of them. Assumes nothing.
-use mathlib.Core.Path.{_≡_, refl, sym, ap, _∙_}
-use mathlib.Core.Bool.{Bool, true, false, cond, _&&_}
+use mathlib.Core.Path.{_≡_, refl, ap}
+use mathlib.Core.Bool.{Bool, cond}
 use Prim.Native.Nat.{ℕ, _-_, _^_, _%_, _*_, _<_, _≤_}
 use native.Mathlib.Omega.{arith}
 use lib.Dec.{ltb, eqb}
 use lib.Count.{ones, onesIn, leadingZeros}
 use borrow.Author.Tests.{eqb-true, ne-eqb, ltb-true, lt-ltb, le-ltb}
 use Rattle.lists.proofs.Tests.{cond-either}
-use Rattle.lists.proofs.Table.{passes, passes-at}
+use Rattle.lists.proofs.Table.{passes-at}
 use Rattle.severity.specs.Severity.{numberOf, worstOf, setFor, rowOf, answerFor, refused, severityOf}
-use Rattle.severity.specs.declared.Row.{Row}
 
 -- the class that the leading zeros of a set of 32 digits name, or 0 where all are zeros
 abbrev byZeros : ℕ → ℕ

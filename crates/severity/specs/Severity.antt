@@ -10,8 +10,8 @@
 --   worstOf set      == the worst class in the set: the highest, or 0 where there is none
 --   unlistedKind     == the refusal
 --   severityOf kind gap == the whole answer
-use Prim.Native.Nat.{ℕ, suc, _+_, _*_, _/_, _%_}
-use mathlib.Core.Bool.{Bool, true, false, cond}
+use Prim.Native.Nat.{ℕ, _+_, _*_, _/_, _%_}
+use mathlib.Core.Bool.{Bool, cond}
 use mathlib.Core.List.{List, [], _∷_}
 use lib.Dec.{ltb, eqb}
 use lib.ListN.{length, getD}

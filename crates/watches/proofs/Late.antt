@@ -9,7 +9,6 @@ use native.Mathlib.Omega.{arith}
 use lib.Dec.{leb, ltb}
 use lib.ListN.{length, getD, take, length-append}
 use Rattle.lateness.specs.Gaps.{keep}
-use Rattle.events.specs.declared.Event.{Event}
 use Rattle.events.specs.Events.{eventAt}
 use Rattle.events.specs.Faults.{late}
 use Rattle.watches.specs.declared.Entry.{Entry}

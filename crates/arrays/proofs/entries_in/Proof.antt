@@ -1,10 +1,9 @@
 -- `arrays::entries_in` meets its contract. Assumes nothing.
 use borrow.Author.Needs.{needs}
-use mathlib.Core.Path.{_≡_, refl, sym, ap, _∙_}
-use Prim.Native.Nat.{_+_, _-_, _≤_, _<_}
+use mathlib.Core.Path.{_≡_, _∙_}
+use Prim.Native.Nat.{_-_, _≤_}
 use native.Mathlib.Omega.{arith}
 use Rattle.arrays.specs.Lent.{entryIn}
-use lib.ListN.{length}
 use Rattle.arrays.proofs.Tabled.{filled, filled-none, filled-turn, filled-all}
 use Rattle.arrays.proofs.entries_in.Statement.{statement}
 use Rattle.arrays.proofs.entries_in.Tie as tie

@@ -1,8 +1,8 @@
 -- `arrays::lay_times` meets its contract. Assumes nothing.
 use borrow.Author.Needs.{needs}
-use mathlib.Core.Path.{_≡_, refl, sym, ap, _∙_}
+use mathlib.Core.Path.{ap, _∙_}
 use lib.ListN.{length, length-set}
-use lib.Seq.{sets, length-sets}
+use lib.Seq.{length-sets}
 use Rattle.arrays.proofs.Packing.{times-laid}
 use Rattle.arrays.proofs.lay_times.Statement.{statement}
 use Rattle.arrays.proofs.lay_times.Tie as tie

@@ -1,6 +1,6 @@
 -- `arrays::lay_words` meets its contract. Assumes nothing.
 use borrow.Author.Needs.{needs}
-use mathlib.Core.Path.{_≡_, refl, sym, ap, _∙_}
+use mathlib.Core.Path.{_∙_}
 use Rattle.arrays.proofs.Packing.{words-laid}
 use Rattle.arrays.proofs.lay_words.Statement.{statement}
 use Rattle.arrays.proofs.lay_words.Tie as tie

@@ -1,17 +1,14 @@
 -- `arrival::arrival_packet` meets its contract. Assumes nothing.
 use borrow.Author.Needs.{needs}
 use mathlib.Core.Path.{_≡_, sym, ap, ap₂, _∙_}
-use mathlib.Core.Bool.{Bool, true}
-use mathlib.Core.List.{List}
+use mathlib.Core.Bool.{true}
 use Prim.Native.Nat.{ℕ}
-use lib.ListN.{length}
 use lib.Seq.{sets}
 use borrow.Author.Tests.{not-true, not-false}
 use Rattle.header.specs.declared.Header.{Header}
 use Rattle.header.specs.Header.{pidOf, headerOf}
 use Rattle.sections.specs.Rooms.{roomBase}
 use Rattle.arrays.specs.Lent.{timesOf, stateIn}
-use Rattle.quiet.specs.Quiet.{firstOf}
 use Rattle.quiet.proofs.Turns.{sizes-lengths}
 use Rattle.arrival.specs.Arrival.{sectionIn, brought, extensionIn, endedGap, arrivalCall, arrivalIn}
 use Rattle.arrival.proofs.Calls.{Arriving, arrival-parts}

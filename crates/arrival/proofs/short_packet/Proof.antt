@@ -1,6 +1,6 @@
 -- `arrival::short_packet` meets its contract. Assumes nothing.
 use borrow.Author.Needs.{needs}
-use mathlib.Core.Path.{_≡_, refl, sym, ap, ap₂, _∙_}
+use mathlib.Core.Path.{_≡_, sym, ap, ap₂, _∙_}
 use mathlib.Core.Bool.{Bool, true, false, cond}
 use Rattle.calls.specs.Calls.{Result, packetCall}
 use Rattle.arrays.specs.Lent.{stateIn}

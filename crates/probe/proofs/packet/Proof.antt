@@ -58,7 +58,7 @@ use Rattle.records.proofs.Rooms.{packetCall-room}
 use Rattle.events.specs.declared.Event.{Event}
 use Rattle.calls.specs.declared.Answer.{Answer}
 use Rattle.calls.specs.declared.State.{State}
-use Rattle.records.proofs.Scratch.{Kept, made, unmade, lend-shr, back-shr}
+use Rattle.records.proofs.Scratch.{Kept, unmade, lend-shr, back-shr}
 use Rattle.events.proofs.Event as MEvent
 use Rattle.calls.proofs.Answer as MAnswer
 use Rattle.calls.proofs.Answer.Laws as MAnswer′

@@ -1,6 +1,6 @@
 -- `programmes::is_usable` meets its contract. Assumes nothing.
 use borrow.Author.Needs.{needs}
-use mathlib.Core.Path.{_≡_, refl, sym, ap, _∙_}
+use mathlib.Core.Path.{_≡_, refl, sym}
 use mathlib.Core.Bool.{Bool, true, false, _||_, not}
 use borrow.Author.Tests.{le-leb, lt-leb}
 use denote.Ref.{now}

@@ -1,8 +1,7 @@
 -- `programmes::move_place` meets its contract. Assumes nothing.
 use borrow.Author.Needs.{needs}
-use mathlib.Core.Path.{_≡_, refl, sym, ap, _∙_}
 use native.Mathlib.Omega.{arith}
-use Prim.Native.Nat.{ℕ, _<_, _≤_}
+use Prim.Native.Nat.{_<_}
 use Rattle.lists.specs.Places.{part}
 use Rattle.sections.proofs.Stages.{place-fits}
 use Rattle.programmes.proofs.move_place.Statement.{statement}

@@ -1,7 +1,5 @@
 -- `programmes::move_room` meets its contract. Assumes nothing.
 use borrow.Author.Needs.{needs}
-use mathlib.Core.Path.{_∙_, ap}
-use denote.Ref.{now}
 use Rattle.lists.proofs.Places.{part-lent}
 use Rattle.programmes.proofs.move_room.Statement.{statement}
 use Rattle.programmes.proofs.move_room.Tie as tie

@@ -1,6 +1,6 @@
 -- `programmes::moved_half` meets its contract. Assumes nothing.
 use borrow.Author.Needs.{needs}
-use mathlib.Core.Path.{_≡_, sym, _∙_}
+use mathlib.Core.Path.{sym, _∙_}
 use native.Mathlib.Omega.{arith}
 use Rattle.programmes.proofs.Moves.{half-past, half-later, half-unlisted, half-kept}
 use Rattle.programmes.proofs.moved_half.Statement.{statement}

@@ -1,11 +1,11 @@
 -- `programmes::moved_halves` meets its contract. Assumes nothing.
 use borrow.Author.Needs.{needs}
-use mathlib.Core.Path.{_≡_, refl, sym, ap, _∙_}
-use Prim.Native.Nat.{ℕ, _-_, _≤_}
+use mathlib.Core.Path.{_≡_, sym, _∙_}
+use Prim.Native.Nat.{_-_, _≤_}
 use native.Mathlib.Omega.{arith}
-use lib.ListN.{length, take}
-use lib.Seq.{sets, length-sets, length-take-le}
-use Rattle.programmes.specs.Places.{movedFrom, movedHalves}
+use lib.ListN.{take}
+use lib.Seq.{sets, length-take-le}
+use Rattle.programmes.specs.Places.{movedFrom}
 use Rattle.programmes.proofs.Moves.{halves-begin, halves-turn, halves-end, halves-none}
 use Rattle.programmes.proofs.moved_halves.Statement.{statement}
 use Rattle.programmes.proofs.moved_halves.Tie as tie

@@ -1,14 +1,12 @@
 -- `programmes::seen_before` meets its contract. Assumes nothing.
 use borrow.Author.Needs.{needs}
 use mathlib.Core.Path.{_≡_, refl, sym, _∙_}
-use mathlib.Core.Bool.{true, false, _||_}
-use Prim.Native.Nat.{ℕ, _-_, _≤_}
+use Prim.Native.Nat.{_-_, _≤_}
 use native.Mathlib.Omega.{arith}
-use lib.Dec.{eqb}
 use borrow.Author.Tests.{eq-eqb, ne-eqb}
 use denote.Ref.{now}
 use Rattle.programmes.specs.Listing.{isNumber}
-use Rattle.programmes.specs.Reading.{numberAt, seenTo}
+use Rattle.programmes.specs.Reading.{seenTo}
 use Rattle.programmes.proofs.Reading.{seen-turn, seen-none}
 use Rattle.programmes.proofs.seen_before.Statement.{statement}
 use Rattle.programmes.proofs.seen_before.Tie as tie

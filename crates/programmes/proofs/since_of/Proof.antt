@@ -3,7 +3,7 @@ use borrow.Author.Needs.{needs}
 use mathlib.Core.Path.{_≡_, refl, sym, _∙_}
 use Prim.Native.Nat.{_-_, _≤_}
 use native.Mathlib.Omega.{arith}
-use lib.ListN.{length, take, drop}
+use lib.ListN.{take, drop}
 use Rattle.programmes.specs.Listing.{sinceOf}
 use Rattle.programmes.proofs.Searches.{since-here, since-on, since-none}
 use Rattle.programmes.proofs.since_of.Statement.{statement}

@@ -1,11 +1,11 @@
 -- `programmes::stays` meets its contract. Assumes nothing.
 use borrow.Author.Needs.{needs}
-use mathlib.Core.Path.{_≡_, refl, sym, ap, _∙_}
-use mathlib.Core.Bool.{true, false, true≢false}
-use Prim.Native.Nat.{ℕ, _-_, _≤_, _<_}
+use mathlib.Core.Path.{sym}
+use mathlib.Core.Bool.{true≢false}
+use Prim.Native.Nat.{_-_, _≤_}
 use native.Mathlib.Omega.{arith}
-use lib.ListN.{length, take}
-use borrow.Author.Tests.{not-true, not-false}
+use lib.ListN.{take}
+use borrow.Author.Tests.{not-false}
 use Rattle.programmes.specs.Moving.{Stayed}
 use Rattle.programmes.proofs.Moves.{stayed-turn}
 use Rattle.programmes.proofs.stays.Statement.{statement}

@@ -1,7 +1,6 @@
 -- `quiet::call_quiet` meets its contract. Assumes nothing.
 use borrow.Author.Needs.{needs}
-use mathlib.Core.Path.{_≡_, sym, _∙_}
-use lib.ListN.{length}
+use mathlib.Core.Path.{sym, _∙_}
 use borrow.Author.Tests.{not-true, not-false}
 use Rattle.header.specs.Header.{headerOf}
 use Rattle.quiet.proofs.Turns.{packet-lengths}

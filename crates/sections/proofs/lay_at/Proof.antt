@@ -1,9 +1,9 @@
 -- `sections::lay_at` meets its contract. Assumes nothing.
 use borrow.Author.Needs.{needs}
-use mathlib.Core.Path.{_≡_, refl, sym, ap, _∙_}
+use mathlib.Core.Path.{_≡_, sym, ap, _∙_}
 use mathlib.Core.Bool.{true, false}
 use mathlib.Core.List.{List, _++_}
-use Prim.Native.Nat.{ℕ, _+_, _-_, _<_, _≤_}
+use Prim.Native.Nat.{ℕ, _+_, _-_, _≤_}
 use native.Mathlib.Nat.{add-assoc}
 use native.Mathlib.Omega.{arith}
 use lib.ListN.{length, take, drop, length-drop}
@@ -14,8 +14,8 @@ use Rattle.lists.specs.Places.{part}
 use Rattle.lists.proofs.Places.{part-length, part-lent, part-sets}
 use Rattle.lists.proofs.Laying.{sets-on}
 use Rattle.lists.proofs.Turns.{rest-all}
-use Rattle.sections.specs.Section.{stageOf, isMore}
-use Rattle.sections.proofs.Cuts.{laid-few, laid-third, laid-beyond, taken-most}
+use Rattle.sections.specs.Section.{isMore}
+use Rattle.sections.proofs.Cuts.{laid-few, laid-third, laid-beyond}
 use Rattle.sections.proofs.Stages.{half-short}
 use Rattle.sections.proofs.lay_at.Statement.{statement}
 use Rattle.sections.proofs.lay_at.Tie as tie

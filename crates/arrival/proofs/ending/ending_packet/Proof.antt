@@ -1,8 +1,7 @@
 -- `arrival::ending::ending_packet` meets its contract. Assumes nothing.
 use borrow.Author.Needs.{needs}
-use mathlib.Core.Path.{_≡_, refl, sym, ap, ap₂, subst, _∙_}
+use mathlib.Core.Path.{_≡_, sym, ap, ap₂, _∙_}
 use mathlib.Core.Bool.{Bool, true, false, cond}
-use mathlib.Core.List.{List}
 use Prim.Native.Nat.{ℕ, _+_, _≤_, _<_}
 use native.Mathlib.Omega.{arith}
 use lib.ListN.{length, set}
@@ -12,12 +11,12 @@ use Rattle.header.specs.declared.Header.{Header}
 use Rattle.header.specs.Header.{pidOf, headerOf}
 use Rattle.sections.specs.Rooms.{memorySize, roomCount, roomBase}
 use Rattle.programmes.specs.Places.{halfAt}
-use Rattle.calls.specs.Cores.{roomFor, withHalf}
+use Rattle.calls.specs.Cores.{roomFor}
 use Rattle.calls.proofs.Accepted.{rooms-at}
 use Rattle.arrays.specs.Lent.{timesOf, stateIn}
 use Rattle.quiet.proofs.Turns.{sizes-lengths}
 use Rattle.arrival.specs.Arrival.{isGoodOutcome, extensionIn, endedGap}
-use Rattle.arrival.specs.Ending.{wholeLength, lastBytes, ended, nearEnd, endingCall, endingIn}
+use Rattle.arrival.specs.Ending.{wholeLength, lastBytes, ended, endingCall, endingIn}
 use Rattle.arrival.proofs.Endings.{Nearing, near-parts, near-good, end-fits}
 use Rattle.arrival.proofs.Lents.{times-half, lengths-known, ending-left}
 use Rattle.arrival.proofs.ending.ending_packet.Statement.{statement}

@@ -1,8 +1,7 @@
 -- `arrival::growing::growth_packet` meets its contract. Assumes nothing.
 use borrow.Author.Needs.{needs}
 use mathlib.Core.Path.{_≡_, sym, ap, ap₂, _∙_}
-use mathlib.Core.Bool.{Bool, true}
-use mathlib.Core.List.{List}
+use mathlib.Core.Bool.{true}
 use Prim.Native.Nat.{ℕ, _+_, _≤_, _<_}
 use native.Mathlib.Omega.{arith}
 use lib.ListN.{length, set}
@@ -10,7 +9,7 @@ use lib.Seq.{sets}
 use borrow.Author.Tests.{not-true, not-false}
 use Rattle.header.specs.declared.Header.{Header}
 use Rattle.header.specs.Header.{pidOf, unitStart, headerOf}
-use Rattle.sections.specs.Rooms.{memorySize, roomCount, roomBase, greatestLength}
+use Rattle.sections.specs.Rooms.{roomCount, roomBase, greatestLength}
 use Rattle.sections.proofs.Stages.{room-fits}
 use Rattle.programmes.specs.Places.{halfAt}
 use Rattle.calls.specs.Cores.{roomFor}

@@ -1,6 +1,6 @@
 -- `card::fields::songpigeon_testdata_write` meets its contract. Assumes nothing.
 use borrow.Author.Needs.{needs}
-use mathlib.Core.Path.{refl, sym, ap, _∙_}
+use mathlib.Core.Path.{sym, ap, _∙_}
 use Rattle.card.specs.Fields.{laidOf}
 use Rattle.card.proofs.fields.songpigeon_testdata_write.Statement.{statement}
 use Rattle.card.proofs.fields.songpigeon_testdata_write.Tie as tie

@@ -59,7 +59,7 @@ use Rattle.arrays.specs.Lent.{stateIn}
 use Rattle.arrays.specs.Replies.{replyOf, timesAfter, wordsAfter}
 use Rattle.events.specs.declared.Event.{Event}
 use Rattle.arrays.specs.declared.Reply.{Reply}
-use Rattle.records.proofs.Scratch.{Kept, made, unmade, lend-shr, back-shr}
+use Rattle.records.proofs.Scratch.{Kept, unmade, lend-shr, back-shr}
 use Rattle.events.proofs.Event as MEvent
 use Rattle.arrays.proofs.Reply as MReply
 use Rattle.arrays.proofs.Reply.Laws as MReply′

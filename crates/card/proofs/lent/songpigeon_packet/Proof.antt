@@ -65,7 +65,7 @@ use Rattle.arrival.proofs.Lents.{short-done, short-wait}
 use Rattle.events.specs.declared.Event.{Event}
 use Rattle.arrays.specs.declared.Reply.{Reply}
 use Rattle.quiet.specs.declared.First.{First}
-use Rattle.records.proofs.Scratch.{Kept, made, unmade, lend-shr, back-shr}
+use Rattle.records.proofs.Scratch.{Kept, unmade, lend-shr, back-shr}
 use Rattle.card.proofs.Again as again
 use Rattle.events.proofs.Event as MEvent
 use Rattle.arrays.proofs.Reply as MReply

@@ -1,7 +1,7 @@
 -- `testdata_vectors::writes::kept` meets its contract. Assumes nothing.
 use borrow.Author.Needs.{needs}
 use mathlib.Core.Path.{_≡_}
-use Prim.Native.Nat.{_≤_, _-_}
+use Prim.Native.Nat.{_-_}
 use lib.ListN.{length}
 use Rattle.testdata_vectors.proofs.writes.kept.Statement.{statement}
 use Rattle.testdata_vectors.proofs.writes.kept.Tie as tie
