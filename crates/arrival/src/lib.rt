@@ -1,6 +1,7 @@
 // The short ways of a packet call on lent arrays: a quiet call (crate `quiet`), a packet that brings one good section
-// of a table other than the PAT and nothing else, and one that adds to a section which stays unfinished. All are done
-// on the arrays themselves. What is not seen at a glance is left to the call itself.
+// of a table other than the PAT and nothing else, one that adds to a section which stays unfinished (`growing`), and
+// one that ends a good section (`ending`). All are done on the arrays themselves. What is not seen at a glance is left
+// to the call itself.
 mod ending;
 mod growing;
 

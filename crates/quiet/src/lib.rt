@@ -1,6 +1,6 @@
 // The quiet part of a packet call on lent arrays: most packets of a stream are elementary data of which the
 // engine only counts, and then the call is two stores. What is not seen at a glance is left to the call
-// itself.
+// itself. The same of a state by value is in `value`.
 mod value;
 
 use arrays::Reply;
