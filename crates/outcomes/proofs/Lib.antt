@@ -1,7 +1,7 @@
 pub mod Alike
 pub mod Promises
 pub mod Once
-pub mod Card
+pub mod Host
 pub mod Inside
 pub mod Calls
 pub mod Beside

@@ -1,3 +1,0 @@
-pub mod Runs
-pub mod Joining
-pub mod Again

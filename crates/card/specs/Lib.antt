@@ -1,4 +1,0 @@
-pub mod Fields
-pub mod Lent
-pub mod Runs
-pub mod Passing

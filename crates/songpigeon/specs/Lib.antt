@@ -1,0 +1,4 @@
+pub mod Version
+pub mod Fields
+pub mod Descriptors
+pub mod Lent

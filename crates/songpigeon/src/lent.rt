@@ -1,0 +1,149 @@
+// The calls on a state that is lent as two arrays: unpacked, judged by value, and packed again where the call
+// is accepted. On a refusal nothing that was lent is written, the arrays neither.
+use arrays::Reply;
+use calls::Answer;
+use events::Event;
+ghost use mathlib.Core.Path.{_≡_};
+ghost use lib.ListN.{length};
+ghost use Rattle.arrays.specs.Lent.{stateIn};
+ghost use Rattle.arrays.specs.Replies.{timesAfter, wordsAfter};
+ghost use Rattle.calls.specs.Calls.{packetCall, clockCall};
+ghost use Rattle.songpigeon.specs.Lent.{OpenDone, PacketDone, ClockDone, PacketLaid, ClockLaid};
+
+// The arrays after a call: its state, unless it was refused.
+fn settle(a: Answer, times: &mut [u64; 22], words: &mut [u16; 56])
+    ensures { λ _. ⌜ (now (times .exit) ≡ timesAfter a (now (times .entry))) × (now (words .exit) ≡ wordsAfter a (now (words .entry))) ⌝ }
+{
+    let refusal = a.refusal;
+    if refusal != 0 {
+        return;
+    }
+    let t = arrays::time_count(times);
+    let w = arrays::word_count(words);
+    let after = a.state;
+    arrays::lay_times(after, times);
+    arrays::lay_words(after, words);
+}
+
+// Opening: the arrays hold the state of an opening at `time`, and the counter table is 0 throughout. Refusals 2
+// and 4.
+#[no_mangle]
+pub extern "C" fn songpigeon_open(
+    times: &mut [u64; 22],
+    words: &mut [u16; 56],
+    time: u64,
+    counters: &mut [u8],
+) -> Reply
+    ensures { λ r. ⌜ OpenDone time (now (counters .entry)) r (now (times .entry)) (now (times .exit)) (now (words .entry)) (now (words .exit)) (now (counters .exit)) ⌝ }
+{
+    let a = engine::open_at(time, counters);
+    settle(a, times, words);
+    Reply {
+        refusal: a.refusal,
+        n: a.n,
+    }
+}
+
+// A packet call, its events laid as numbers.
+pub fn lent_packet(
+    times: &mut [u64; 22],
+    words: &mut [u16; 56],
+    time: u64,
+    packet: &[u8],
+    counters: &mut [u8],
+    memory: &mut [u8; 24576],
+    room: usize,
+    numbers: &mut [u64; 384],
+) -> Reply
+    ensures { λ r. ⌜ PacketLaid (packetCall (stateIn (now (times .entry)) (now (words .entry))) time (now (packet .entry)) (now (counters .entry)) (now (memory .entry)) room)
+        r (now (times .entry)) (now (times .exit)) (now (words .entry)) (now (words .exit)) (now (counters .exit)) (now (memory .exit)) (now (numbers .entry)) (now (numbers .exit)) ⌝ }
+{
+    let t = arrays::time_count(times);
+    let w = arrays::word_count(words);
+    let state = arrays::state_in(times, words);
+    let a = engine::whole_packet_at(state, time, packet, counters, memory, room, numbers);
+    settle(a, times, words);
+    Reply {
+        refusal: a.refusal,
+        n: a.n,
+    }
+}
+
+// A clock call, its events laid as numbers.
+pub fn lent_clock(
+    times: &mut [u64; 22],
+    words: &mut [u16; 56],
+    time: u64,
+    memory: &[u8; 24576],
+    room: usize,
+    numbers: &mut [u64; 384],
+) -> Reply
+    ensures { λ r. ⌜ ClockLaid (clockCall (stateIn (now (times .entry)) (now (words .entry))) time (now (memory .entry)) room)
+        r (now (times .entry)) (now (times .exit)) (now (words .entry)) (now (words .exit)) (now (numbers .entry)) (now (numbers .exit)) ⌝ }
+{
+    let t = arrays::time_count(times);
+    let w = arrays::word_count(words);
+    let state = arrays::state_in(times, words);
+    let a = engine::clock_at(state, time, memory, room, numbers);
+    settle(a, times, words);
+    Reply {
+        refusal: a.refusal,
+        n: a.n,
+    }
+}
+
+// A packet call: the late events, then those of steps 1 to 5. Refusals 1 to 6. A short call is done on the arrays
+// themselves (crate `arrival`); any other is judged by value.
+#[no_mangle]
+pub extern "C" fn songpigeon_packet(
+    times: &mut [u64; 22],
+    words: &mut [u16; 56],
+    time: u64,
+    packet: &[u8],
+    counters: &mut [u8],
+    memory: &mut [u8; 24576],
+    events: &mut [Event],
+) -> Reply
+    ensures { λ r. ⌜ PacketDone (packetCall (stateIn (now (times .entry)) (now (words .entry))) time (now (packet .entry)) (now (counters .entry)) (now (memory .entry)) (length (now (events .entry))))
+        r (now (times .entry)) (now (times .exit)) (now (words .entry)) (now (words .exit)) (now (counters .exit)) (now (memory .exit)) (now (events .entry)) (now (events .exit)) ⌝ }
+{
+    let room = events.len();
+    let first = arrival::short_packet(times, words, time, packet, counters, memory, room);
+    if first.done {
+        return first.answer;
+    }
+    let mut numbers = [0u64; 384];
+    let out = lent_packet(
+        times,
+        words,
+        time,
+        packet,
+        counters,
+        memory,
+        room,
+        &mut numbers,
+    );
+    let n = out.n;
+    records::hand_over(&numbers, n, events);
+    out
+}
+
+// A clock call: the late events. Refusals 3 to 6.
+#[no_mangle]
+pub extern "C" fn songpigeon_clock(
+    times: &mut [u64; 22],
+    words: &mut [u16; 56],
+    time: u64,
+    memory: &[u8; 24576],
+    events: &mut [Event],
+) -> Reply
+    ensures { λ r. ⌜ ClockDone (clockCall (stateIn (now (times .entry)) (now (words .entry))) time (now (memory .entry)) (length (now (events .entry))))
+        r (now (times .entry)) (now (times .exit)) (now (words .entry)) (now (words .exit)) (now (events .entry)) (now (events .exit)) ⌝ }
+{
+    let mut numbers = [0u64; 384];
+    let room = events.len();
+    let out = lent_clock(times, words, time, memory, room, &mut numbers);
+    let n = out.n;
+    records::hand_over(&numbers, n, events);
+    out
+}
