@@ -1,42 +1,70 @@
-/* A host in C: takes a recorded stream of 188-byte packets on standard input, as if it came at 38 Mbit/s, and prints its
- * events as `tsevents` does. */
+/* A host in C: takes a recorded stream of 188-byte packets on standard input, as if it came at a constant rate, and prints
+ * its events as `tsevents` does.
+ *
+ *     example [BITS_A_SECOND] < recording.ts
+ *
+ * It ends at the last packet: a recording does not say what came behind it. It ends with 0 where the stream was read to its
+ * end, 1 where a call was refused, 2 where something failed. */
 #include "songpigeon.h"
 
 #include <inttypes.h>
 #include <stdio.h>
+#include <stdlib.h>
 
-static uint64_t times[SONGPIGEON_TIMES];
-static uint16_t words[SONGPIGEON_WORDS];
-static uint8_t counters[SONGPIGEON_COUNTERS];
-static uint8_t memory[SONGPIGEON_MEMORY];
-static songpigeon_event events[SONGPIGEON_EVENTS];
+enum { READ_TO_ITS_END = 0, REFUSED = 1, FAILED = 2 };
+
+/* 188 bytes at one bit a second, in ticks of 27 MHz */
+static const uint64_t packet_ticks = UINT64_C(188) * 8 * 27000000;
+
+static songpigeon_card card;
 
 static int print(songpigeon_reply reply) {
-    if (reply.refusal != 0) {
+    if (reply.refusal != SONGPIGEON_ACCEPTED) {
         printf("refused\t%" PRIu32 "\n", reply.refusal);
-        return 0;
+        return REFUSED;
     }
     for (size_t k = 0; k < reply.n; k++) {
-        printf("%" PRIu64 "\t%04x\t%u\t%04x\n", events[k].stamp, events[k].fault, events[k].cause, events[k].id);
+        const songpigeon_event *e = &card.events[k];
+        printf("%" PRIu64 "\t%04x\t%u\t%04x\n", e->stamp, e->fault, e->cause, e->id);
     }
-    return 1;
+    return READ_TO_ITS_END;
 }
 
-int main(void) {
-    const uint64_t ticks = 188 * 8 * 27 / 38;
-    uint8_t packet[188];
-    size_t length;
+static int judge(FILE *stream, uint64_t rate) {
+    uint8_t packet[SONGPIGEON_PACKET];
     uint64_t time = 0;
-    int good = 1;
+    uint64_t over = 0; /* what the whole ticks so far leave over, in parts of `rate` */
+    size_t length;
+    int status = print(songpigeon_card_open(&card, time));
+    while (status == READ_TO_ITS_END && (length = fread(packet, 1, sizeof packet, stream)) > 0) {
+        over += packet_ticks % rate;
+        time += packet_ticks / rate + over / rate;
+        over %= rate;
+        status = print(songpigeon_card_packet(&card, time, packet, length));
+    }
+    if (ferror(stream)) {
+        perror("reading failed");
+        return FAILED;
+    }
+    return status;
+}
+
+int main(int count, char **arguments) {
+    char *end = "";
+    unsigned long long rate = count > 1 ? strtoull(arguments[1], &end, 10) : 38000000;
+    if (count > 2 || *end != '\0' || rate == 0 || rate > UINT64_C(1000000000000)) {
+        fputs("usage: example [BITS_A_SECOND] < recording.ts\n", stderr);
+        return FAILED;
+    }
+    if (songpigeon_version() / 10000 != SONGPIGEON_VERSION_MAJOR) {
+        fputs("the library is of another version than the header\n", stderr);
+        return FAILED;
+    }
     puts("time\tfault\tcause\tid");
-    songpigeon_open(times, words, time, counters, sizeof counters);
-    while (good && (length = fread(packet, 1, sizeof packet, stdin)) > 0) {
-        time += ticks;
-        good = print(songpigeon_packet(times, words, time, packet, length, counters, sizeof counters, memory, events,
-                                       SONGPIGEON_EVENTS));
+    int status = judge(stdin, rate);
+    if (fflush(stdout) != 0 || ferror(stdout)) {
+        perror("writing failed");
+        return FAILED;
     }
-    if (good) {
-        print(songpigeon_clock(times, words, time + 27000000, memory, events, SONGPIGEON_EVENTS));
-    }
-    return 0;
+    return status;
 }

@@ -1,6 +1,6 @@
 #!/usr/bin/env bash
-# The host side: the static library linked into Rust and C. What the boundary asks and gives; the two example
-# hosts on kept streams; and the product held against the reference, call by call and byte by byte, for about
+# The host side: the static library linked into Rust. What the boundary asks and gives; the example host on kept
+# streams; and the product held against the reference, call by call and byte by byte, for about
 # a minute (SECONDS_OF_LOGS makes it longer).
 set -uo pipefail
 cd "$(dirname "$0")/.." || exit 1
@@ -18,9 +18,9 @@ note() { # STATUS WHAT
     fi
 }
 
-bash host/install.sh
-rt staticlib card
-note $? "rt staticlib card"
+bash host/tools.sh
+rt staticlib songpigeon
+note $? "rt staticlib songpigeon"
 
 host() { # SUBCOMMAND ARGUMENTS: cargo in host/, on one core and without a network
     (cd host && cargo "$1" --quiet --offline --release -j 1 --target-dir ../target/host "${@:2}")
@@ -34,15 +34,22 @@ passed=$((passed + ${tests:-0}))
 
 host build --workspace --examples --bins
 note $? "cargo build"
-gcc -std=c99 -Wall -Wextra -Werror -O2 -o target/host/example_c host/example.c target/staticlib/libcard.a
-note $? "gcc host/example.c"
 
+# the example host in Rust; the one in C is tried by tests/install.sh, as a user builds it
+example=target/host/release/examples/host
 for place in tests/host/*/; do
-    for program in target/host/release/examples/host target/host/example_c; do
-        "$program" < "$place/stream" | cmp -s - "$place/stdout"
-        note $? "$program on $place"
-    done
+    want=0
+    ! grep -q '^refused' "$place/stdout" || want=1
+    "$example" "$(cat "$place/rate")" < "$place/stream" > "$log" 2> /dev/null
+    [ $? -eq "$want" ] && cmp -s "$log" "$place/stdout"
+    note $? "$example on $place"
 done
+"$example" 0 < /dev/null > "$log" 2>&1
+[ $? -eq 2 ] && grep -q '^usage: ' "$log"
+note $? "$example with a rate of 0"
+"$example" < tests/host/slow/stream > /dev/full 2> "$log"
+[ $? -eq 2 ] && [ -s "$log" ]
+note $? "$example on a full disk"
 
 target/host/release/songpigeon-differential --seconds "${SECONDS_OF_LOGS:-45}" --tsevents target/bin/tsevents | tee "$log"
 if [[ $(tail -n 1 "$log") =~ ^([0-9]+)\ passed,\ ([0-9]+)\ failed$ ]]; then

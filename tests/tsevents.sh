@@ -35,7 +35,7 @@ run() { # PROGRAM
 
 run target/bin/tsevents
 
-bash host/install.sh cargo rustc
+bash host/tools.sh cargo rustc
 (cd host && cargo build --quiet --offline --release -j 1 -p songpigeon-reference --target-dir ../target/host)
 run target/host/release/tsevents_reference
 

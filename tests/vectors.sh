@@ -6,7 +6,7 @@ cd "$(dirname "$0")/.." || exit 1
 passed=0
 failed=0
 
-bash host/install.sh cargo rustc
+bash host/tools.sh cargo rustc
 (cd host && cargo build --quiet --offline --release -j 1 --target-dir ../target/host -p songpigeon-vectors)
 
 for program in refusal_vectors packet_vectors; do

@@ -1,4 +1,4 @@
-//! Links the static library that `rt staticlib card` writes; `SONGPIGEON_LIB` names another folder than
+//! Links the static library that `rt staticlib songpigeon` writes; `SONGPIGEON_LIB` names another folder than
 //! `target/staticlib`.
 
 use std::env;
@@ -8,7 +8,7 @@ fn main() {
     let here = PathBuf::from(env::var("CARGO_MANIFEST_DIR").expect("cargo sets it"));
     let folder = env::var_os("SONGPIGEON_LIB").map_or_else(|| here.join("../../target/staticlib"), PathBuf::from);
     println!("cargo:rerun-if-env-changed=SONGPIGEON_LIB");
-    println!("cargo:rerun-if-changed={}", folder.join("libcard.a").display());
+    println!("cargo:rerun-if-changed={}", folder.join("libsongpigeon.a").display());
     println!("cargo:rustc-link-search=native={}", folder.display());
-    println!("cargo:rustc-link-lib=static=card");
+    println!("cargo:rustc-link-lib=static=songpigeon");
 }

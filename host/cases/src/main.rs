@@ -126,7 +126,9 @@ fn main() -> io::Result<()> {
     if differ > 0 {
         process::exit(1);
     }
-    streams::write(&Path::new(&root).join("host"))?;
+    if !streams::write(&Path::new(&root).join("host"))?.is_empty() {
+        process::exit(1);
+    }
     let root = &Path::new(&root).join("tsevents");
     for case in &cases {
         write(root, case)?;

@@ -51,6 +51,15 @@ const OWED: &[&str] = &[
     "test data write refused 13",
     "test data write refused 14",
     "test data write refused 15",
+    "test data indicator too wide refused 13",
+    "test data indicator too wide refused 14",
+    "descriptors read",
+    "descriptors refused 13",
+    "descriptors refused 14",
+    "descriptor written",
+    "descriptor write refused 13",
+    "descriptor write refused 14",
+    "descriptor write refused 15",
 ];
 
 const OWED_TEXTS: &[&str] = &["text whole", "text refused 4", "text refused 6", "text refused 8"];

@@ -60,6 +60,8 @@ fn round(seed: u64, program: Option<&Path>, folder: &Path, seen: &mut Coverage) 
     }
     for _ in 0..20 {
         testdata::round(random, seen)?;
+        testdata::bytes_round(random, seen)?;
+        testdata::descriptors_round(random, seen)?;
         calls::severities(random, seen)?;
     }
     calls::refused_openings(random, seen)?;

@@ -2,6 +2,7 @@
 
 use crate::coverage::Coverage;
 use crate::random::Random;
+use songpigeon::lent;
 use songpigeon::testdata::{self as product, Fields};
 use songpigeon::Refusal;
 use songpigeon_reference::crc::crc32;
@@ -105,6 +106,124 @@ pub fn round(random: &Random, seen: &mut Coverage) -> Result<(), String> {
             Ok(())
         }
     }
+}
+
+/// Twelve bytes as a host may lend them, an indicator of any number among them.
+pub fn bytes_round(random: &Random, seen: &mut Coverage) -> Result<(), String> {
+    let mut fields = [0; lent::FIELDS];
+    let bits = [1, 6, 2, 3, 8, 8, 2, 5, 1, 8, 8, 4];
+    for (field, bits) in fields.iter_mut().zip(bits) {
+        *field = fitting(bits, random);
+    }
+    if random.once_in(3) {
+        fields[0] = random.pick(&[0, 1, 2, 3, 128, 255]);
+    }
+    let descriptors = if random.once_in(3) { Vec::new() } else { row(random) };
+    let n = random.size(40);
+    let data = random.bytes(n);
+    let length = random.pick(&[200, 200, 14, random.size(200)]);
+    let mut place = random.bytes(length);
+    let mut product_place = place.clone();
+    let expected = reference::write_bytes(&fields, &descriptors, &data, &mut place);
+    let found = lent::testdata_write(&fields, &descriptors, &data, &mut product_place);
+    let replied = match expected {
+        Ok(length) => lent::Laid { refusal: 0, length },
+        Err(refusal) => lent::Laid { refusal, length: 0 },
+    };
+    if replied != found || place != product_place {
+        return Err(format!("writing {:?} {:?} into {} bytes: {:?}, {:?}", fields, descriptors, length, expected, found));
+    }
+    if fields[0] > 1 {
+        seen.met(format!("test data indicator too wide refused {}", found.refusal));
+    }
+    Ok(())
+}
+
+fn same_descriptor(a: &reference::Descriptor, b: &product::Descriptor) -> bool {
+    use {product::Descriptor as P, reference::Descriptor as R};
+    match (*a, *b) {
+        (R::ElementaryId { id_type: t, pid: p }, P::ElementaryId { id_type, pid }) => (t, p) == (id_type, pid),
+        (
+            R::Gps { north_south: n, latitude: y, east_west: e, longitude: x, elevation: z },
+            P::Gps { north_south, latitude, east_west, longitude, elevation },
+        ) => (n, y, e, x, z) == (north_south, latitude, east_west, longitude, elevation),
+        (R::ReducedPcr { base: b }, P::ReducedPcr { base }) => b == base,
+        (R::Program { number: n, reserved: r, pid: p }, P::Program { number, reserved, pid }) => {
+            (n, r, p) == (number, reserved, pid)
+        }
+        (R::Other { tag: t, body: b }, P::Other { tag, body }) => (t, b) == (tag, body),
+        _ => false,
+    }
+}
+
+/// The numbers of a descriptor, now and then too wide for their fields, on both sides.
+fn random_descriptors<'a>(body: &'a [u8], random: &Random) -> (reference::Descriptor<'a>, product::Descriptor<'a>) {
+    use {product::Descriptor as P, reference::Descriptor as R};
+    let wide = |bits: u32| {
+        let all = random.number() as u32;
+        if random.once_in(12) { all } else { all & (u32::MAX >> (32 - bits)) }
+    };
+    match random.below(5) {
+        0 => {
+            let (id_type, pid) = (wide(3) as u8, wide(13) as u16);
+            (R::ElementaryId { id_type, pid }, P::ElementaryId { id_type, pid })
+        }
+        1 => {
+            let (north_south, latitude, east_west) = (wide(1) as u8, wide(23), wide(1) as u8);
+            let (longitude, elevation) = (wide(23), wide(16) as u16);
+            (
+                R::Gps { north_south, latitude, east_west, longitude, elevation },
+                P::Gps { north_south, latitude, east_west, longitude, elevation },
+            )
+        }
+        2 => {
+            let base = wide(32);
+            (R::ReducedPcr { base }, P::ReducedPcr { base })
+        }
+        3 => {
+            let (number, reserved, pid) = (wide(16) as u16, wide(3) as u8, wide(13) as u16);
+            (R::Program { number, reserved, pid }, P::Program { number, reserved, pid })
+        }
+        _ => {
+            let tag = random.pick(&[0x40, 0x41, 0x45, 0x46, 0x47, random.byte()]);
+            (R::Other { tag, body }, P::Other { tag, body })
+        }
+    }
+}
+
+/// A loop taken apart, and one descriptor written, on both sides.
+pub fn descriptors_round(random: &Random, seen: &mut Coverage) -> Result<(), String> {
+    let bytes = row(random);
+    let expected = reference::descriptors(&bytes);
+    let found: Result<Vec<_>, _> = product::descriptors(&bytes).collect();
+    let same = match (&expected, &found) {
+        (Ok(e), Ok(f)) => e.len() == f.len() && e.iter().zip(f).all(|(a, b)| same_descriptor(a, b)),
+        (Err(number), Err(refusal)) => *refusal == Refusal(u32::from(*number)),
+        _ => false,
+    };
+    if !same {
+        return Err(format!("descriptors of {:?}: {:?} and {:?}", bytes, expected, found));
+    }
+    seen.met(match expected {
+        Ok(_) => "descriptors read".to_string(),
+        Err(number) => format!("descriptors refused {}", number),
+    });
+    let n = random.pick(&[0, 2, 4, 8, 255, 256, random.size(300)]);
+    let body = random.bytes(n);
+    let (by_reference, by_product) = random_descriptors(&body, random);
+    let length = random.pick(&[300, 300, 0, 1, 4, 5, 6, random.size(300)]);
+    let mut place = random.bytes(length);
+    let mut product_place = place.clone();
+    let expected = reference::write_descriptor(&by_reference, &mut place);
+    let found = by_product.write(&mut product_place);
+    if expected.map_err(|number| Refusal(u32::from(number))) != found || place != product_place {
+        return Err(format!("writing {:?} into {} bytes: {:?} and {:?}", by_product, length, expected, found));
+    }
+    seen.met(match expected {
+        Ok(_) => "descriptor written".to_string(),
+        Err(number) => format!("descriptor write refused {}", number),
+    });
+    Ok(())
 }
 
 /// The CRC_32 of the bytes as they are now.

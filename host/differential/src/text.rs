@@ -47,6 +47,23 @@ fn spoil(log: &mut Vec<u8>, random: &Random) {
     }
 }
 
+/// What is said on standard error: the refused line, if there is one.
+fn said(text: &str) -> String {
+    let words: Vec<&str> = text.lines().last().unwrap_or("").split('\t').collect();
+    match words[..] {
+        ["line", n, "refused", number] => {
+            let meaning = match number {
+                "4" => "time above 2^62",
+                "6" => "time below the one before",
+                "8" => "malformed line",
+                other => panic!("no log is refused with {}", other),
+            };
+            format!("tsevents: line {} refused with {}: {}\n", n, number, meaning)
+        }
+        _ => String::new(),
+    }
+}
+
 /// One log through both; the program reads it from a file in `folder`.
 pub fn round(program: &Path, folder: &Path, random: &Random, seen: &mut Coverage) -> Result<(), String> {
     let mut log = log(random);
@@ -63,6 +80,9 @@ pub fn round(program: &Path, folder: &Path, random: &Random, seen: &mut Coverage
         return Err(format!("{} prints another text for {}", program.display(), kept.display()));
     }
     let text = String::from_utf8_lossy(&expected);
+    if String::from_utf8_lossy(&output.stderr) != said(&text) || !output.status.success() {
+        return Err(format!("{} says {:?} on {:?}", program.display(), output, text));
+    }
     seen.met(match text.lines().last().and_then(|line| line.split("\trefused\t").nth(1)) {
         Some(number) => format!("text refused {}", number),
         None => "text whole".to_string(),

@@ -258,6 +258,28 @@ pub fn write(section: &Section, place: &mut [u8]) -> Result<usize, u8> {
     lay(&bytes, place)
 }
 
+/// The fields of a section as a host hands them in, a byte each in the order of Table 1. The first,
+/// section_syntax_indicator, has one bit: a greater number is too wide for it, as any other may be.
+pub fn write_bytes(fields: &[u8; 12], descriptors: &[u8], data: &[u8], place: &mut [u8]) -> Result<usize, u8> {
+    let [indicator, table_id, priority, reserved, rest @ ..] = *fields;
+    if indicator > 1 {
+        return Err(if has_wrong_size(descriptors) { WRONG_SIZE } else { UNFIT });
+    }
+    let [user_defined, extension, reserved_version, version, current_next, number, last, reserved_loop] = rest;
+    let syntax = Syntax {
+        user_defined,
+        extension,
+        reserved: reserved_version,
+        version,
+        current_next,
+        number,
+        last,
+        reserved_loop,
+    };
+    let head = Head { table_id, priority, reserved };
+    write(&Section { head, syntax: (indicator == 1).then_some(syntax), descriptors, data }, place)
+}
+
 /// Writes one descriptor at the front of a place: its length. A tag of fixed size with a body of another gives 14
 /// first.
 pub fn write_descriptor(descriptor: &Descriptor, place: &mut [u8]) -> Result<usize, u8> {

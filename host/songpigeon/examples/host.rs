@@ -1,35 +1,109 @@
-//! A host in Rust: takes a recorded stream of 188-byte packets on standard input, as if it came at 38 Mbit/s, and
+//! A host in Rust: takes a recorded stream of 188-byte packets on standard input, as if it came at a constant rate, and
 //! prints its events as `tsevents` does.
+//!
+//!     host [BITS_A_SECOND] < recording.ts
+//!
+//! It ends at the last packet: a recording does not say what came behind it. It ends with 0 where the stream was read to
+//! its end, 1 where a call was refused, 2 where something failed.
 
 use songpigeon::{Event, Probe, Refusal};
-use std::io::{self, Read};
+use std::env;
+use std::io::{self, Read, Write};
+use std::process::ExitCode;
 
-/// Ticks of 27 MHz for a packet at 38 Mbit/s.
-const TICKS: u64 = 188 * 8 * 27 / 38;
+const PACKET: usize = 188;
+/// 188 bytes at one bit a second, in ticks of 27 MHz.
+const PACKET_TICKS: u64 = 188 * 8 * 27_000_000;
 
-fn print(events: &[Event]) {
+/// When each packet of a stream arrives, the opening being at 0.
+struct Clock {
+    rate: u64,
+    time: u64,
+    /// what the whole ticks so far leave over, in parts of `rate`
+    over: u64,
+}
+
+impl Clock {
+    fn next(&mut self) -> u64 {
+        self.over += PACKET_TICKS % self.rate;
+        self.time += PACKET_TICKS / self.rate + self.over / self.rate;
+        self.over %= self.rate;
+        self.time
+    }
+}
+
+fn print(out: &mut impl Write, events: &[Event]) -> io::Result<()> {
     for e in events {
-        println!("{}\t{:04x}\t{}\t{:04x}", e.stamp, e.fault, e.cause, e.id);
+        writeln!(out, "{}\t{:04x}\t{}\t{:04x}", e.stamp, e.fault, e.cause, e.id)?;
     }
-}
-
-fn run(stream: &[u8]) -> Result<(), Refusal> {
-    let mut probe = Probe::open(0)?;
-    let mut time = 0;
-    for packet in stream.chunks(188) {
-        time += TICKS;
-        print(probe.packet(time, packet)?);
-    }
-    print(probe.clock(time + 27_000_000)?);
     Ok(())
 }
 
-fn main() -> io::Result<()> {
-    let mut stream = Vec::new();
-    io::stdin().read_to_end(&mut stream)?;
-    println!("time\tfault\tcause\tid");
-    if let Err(Refusal(number)) = run(&stream) {
-        println!("refused\t{}", number);
+/// The next packet, or as much of one as the stream still has.
+fn read_packet(stream: &mut impl Read, packet: &mut [u8; PACKET]) -> io::Result<usize> {
+    let mut length = 0;
+    while length < PACKET {
+        match stream.read(&mut packet[length..]) {
+            Ok(0) => break,
+            Ok(n) => length += n,
+            Err(e) if e.kind() == io::ErrorKind::Interrupted => {}
+            Err(e) => return Err(e),
+        }
     }
-    Ok(())
+    Ok(length)
+}
+
+/// Judges the stream to its end, or up to the packet that is refused.
+fn judge(stream: &mut impl Read, out: &mut impl Write, rate: u64) -> io::Result<Result<(), Refusal>> {
+    let mut probe = match Probe::open(0) {
+        Ok(probe) => probe,
+        Err(refusal) => return Ok(Err(refusal)),
+    };
+    let mut clock = Clock { rate, time: 0, over: 0 };
+    let mut packet = [0; PACKET];
+    loop {
+        let length = read_packet(stream, &mut packet)?;
+        if length == 0 {
+            return Ok(Ok(()));
+        }
+        match probe.packet(clock.next(), &packet[..length]) {
+            Ok(events) => print(out, events)?,
+            Err(refusal) => return Ok(Err(refusal)),
+        }
+    }
+}
+
+fn run(rate: u64) -> io::Result<Result<(), Refusal>> {
+    let mut out = io::BufWriter::new(io::stdout().lock());
+    writeln!(out, "time\tfault\tcause\tid")?;
+    let judged = judge(&mut io::BufReader::new(io::stdin().lock()), &mut out, rate)?;
+    if let Err(refusal) = judged {
+        writeln!(out, "refused\t{}", refusal.0)?;
+    }
+    out.flush()?;
+    Ok(judged)
+}
+
+fn main() -> ExitCode {
+    let words: Vec<String> = env::args().skip(1).collect();
+    let rate = match &words[..] {
+        [] => 38_000_000,
+        [rate] => rate.parse().unwrap_or(0),
+        _ => 0,
+    };
+    if !(1..=1_000_000_000_000).contains(&rate) {
+        eprintln!("usage: host [BITS_A_SECOND] < recording.ts");
+        return ExitCode::from(2);
+    }
+    match run(rate) {
+        Ok(Ok(())) => ExitCode::SUCCESS,
+        Ok(Err(refusal)) => {
+            eprintln!("host: {}", refusal);
+            ExitCode::from(1)
+        }
+        Err(e) => {
+            eprintln!("host: {}", e);
+            ExitCode::from(2)
+        }
+    }
 }

@@ -16,6 +16,13 @@ pub const MEMORY: usize = 24_576;
 /// the least room for events
 pub const EVENT_ROOM: usize = 96;
 
+/// the fields of a test data section, one byte each
+pub const FIELDS: usize = 12;
+/// descriptors at, length; data at, length
+pub const PLACES: usize = 4;
+/// the numbers of a descriptor of fixed size, at most
+pub const VALUES: usize = 5;
+
 pub type Times = [u64; TIMES];
 pub type Words = [u16; WORDS];
 pub type Memory = [u8; MEMORY];
@@ -37,16 +44,6 @@ pub struct Reply {
     pub n: usize,
 }
 
-/// The number of the refusal that ended a run (0: all packets were accepted), how many were accepted, and the number of
-/// their events.
-#[repr(C)]
-#[derive(Clone, Copy, Debug, PartialEq, Eq)]
-pub struct Ran {
-    pub refusal: u32,
-    pub accepted: usize,
-    pub n: usize,
-}
-
 #[repr(C)]
 #[derive(Clone, Copy, Debug, PartialEq, Eq)]
 pub struct Verdict {
@@ -56,8 +53,36 @@ pub struct Verdict {
     pub worst: u32,
 }
 
+/// The refusal number (0: written) and the length written.
+#[repr(C)]
+#[derive(Clone, Copy, Debug, PartialEq, Eq)]
+pub struct Laid {
+    pub refusal: u8,
+    pub length: usize,
+}
+
+/// What stands at a place among descriptors: the refusal number (0: none), its kind ([`NO_MORE`], [`OF_FIXED`],
+/// [`OF_OTHER`]), its tag, the place and length of the body of another one, and the next place.
+#[repr(C)]
+#[derive(Clone, Copy, Debug, PartialEq, Eq)]
+pub struct Found {
+    pub refusal: u8,
+    pub kind: u8,
+    pub tag: u8,
+    pub at: usize,
+    pub length: usize,
+    pub next: usize,
+}
+
+/// The end of the descriptors, or a refusal.
+pub const NO_MORE: u8 = 0;
+/// A descriptor of fixed size: its numbers are in the lent values.
+pub const OF_FIXED: u8 = 1;
+/// Another one, with the place of its body.
+pub const OF_OTHER: u8 = 2;
+
 mod exported {
-    use super::{Event, Ran, Reply, Verdict};
+    use super::{Event, Found, Laid, Reply, Verdict};
 
     extern "C" {
         pub fn songpigeon_open(
@@ -79,19 +104,6 @@ mod exported {
             events: *mut Event,
             events_length: usize,
         ) -> Reply;
-        pub fn songpigeon_packets(
-            times: *mut u64,
-            words: *mut u16,
-            arrivals: *const u64,
-            arrivals_length: usize,
-            packets: *const u8,
-            packets_length: usize,
-            counters: *mut u8,
-            counters_length: usize,
-            memory: *mut u8,
-            numbers: *mut u64,
-            numbers_length: usize,
-        ) -> Ran;
         pub fn songpigeon_clock(
             times: *mut u64,
             words: *mut u16,
@@ -101,6 +113,54 @@ mod exported {
             events_length: usize,
         ) -> Reply;
         pub fn songpigeon_severity(kind: usize, gap: u64) -> Verdict;
+        pub fn songpigeon_version() -> u32;
+        pub fn songpigeon_testdata_read(
+            section: *const u8,
+            section_length: usize,
+            fields: *mut u8,
+            places: *mut u64,
+        ) -> u8;
+        pub fn songpigeon_testdata_write(
+            fields: *const u8,
+            descriptors: *const u8,
+            descriptors_length: usize,
+            data: *const u8,
+            data_length: usize,
+            place: *mut u8,
+            place_length: usize,
+        ) -> Laid;
+        pub fn songpigeon_testdata_descriptor(
+            bytes: *const u8,
+            bytes_length: usize,
+            at: usize,
+            end: usize,
+            values: *mut u32,
+        ) -> Found;
+        pub fn songpigeon_testdata_elementary_id(id_type: u8, pid: u16, place: *mut u8, place_length: usize) -> Laid;
+        pub fn songpigeon_testdata_gps(
+            north_south: u8,
+            latitude: u32,
+            east_west: u8,
+            longitude: u32,
+            elevation: u16,
+            place: *mut u8,
+            place_length: usize,
+        ) -> Laid;
+        pub fn songpigeon_testdata_reduced_pcr(base: u32, place: *mut u8, place_length: usize) -> Laid;
+        pub fn songpigeon_testdata_program(
+            number: u16,
+            reserved: u8,
+            pid: u16,
+            place: *mut u8,
+            place_length: usize,
+        ) -> Laid;
+        pub fn songpigeon_testdata_other(
+            tag: u8,
+            body: *const u8,
+            body_length: usize,
+            place: *mut u8,
+            place_length: usize,
+        ) -> Laid;
     }
 }
 
@@ -139,35 +199,6 @@ pub fn packet(
     }
 }
 
-/// A run of packets, 188 bytes each, one after the other at their arrival times, up to the first refusal. Events are laid
-/// as four numbers each: stamp, fault, cause, id.
-pub fn packets(
-    times: &mut Times,
-    words: &mut Words,
-    arrivals: &[u64],
-    packets: &[u8],
-    counters: &mut [u8],
-    memory: &mut Memory,
-    numbers: &mut [u64],
-) -> Ran {
-    // SAFETY: as above.
-    unsafe {
-        exported::songpigeon_packets(
-            times.as_mut_ptr(),
-            words.as_mut_ptr(),
-            arrivals.as_ptr(),
-            arrivals.len(),
-            packets.as_ptr(),
-            packets.len(),
-            counters.as_mut_ptr(),
-            counters.len(),
-            memory.as_mut_ptr(),
-            numbers.as_mut_ptr(),
-            numbers.len(),
-        )
-    }
-}
-
 /// A clock call. Refusals 3 to 6.
 pub fn clock(times: &mut Times, words: &mut Words, time: u64, memory: &Memory, events: &mut [Event]) -> Reply {
     // SAFETY: as above.
@@ -187,4 +218,92 @@ pub fn clock(times: &mut Times, words: &mut Words, time: u64, memory: &Memory, e
 pub fn severity(kind: usize, gap: u64) -> Verdict {
     // SAFETY: numbers only.
     unsafe { exported::songpigeon_severity(kind, gap) }
+}
+
+/// The version of the library, `major * 10000 + minor * 100 + patch`.
+pub fn version() -> u32 {
+    // SAFETY: nothing is lent.
+    unsafe { exported::songpigeon_version() }
+}
+
+/// Reads a test data section: its fields, a byte each, and the places of its descriptors and its data. Refusals 11 to 14;
+/// 0 where it was read.
+pub fn testdata_read(section: &[u8], fields: &mut [u8; FIELDS], places: &mut [u64; PLACES]) -> u8 {
+    // SAFETY: each pointer and length is that of a reference; the two arrays have the lengths that the function writes.
+    unsafe {
+        exported::songpigeon_testdata_read(section.as_ptr(), section.len(), fields.as_mut_ptr(), places.as_mut_ptr())
+    }
+}
+
+/// Writes a test data section. Refusals 14, 13, 15 in this order.
+pub fn testdata_write(fields: &[u8; FIELDS], descriptors: &[u8], data: &[u8], place: &mut [u8]) -> Laid {
+    // SAFETY: as above.
+    unsafe {
+        exported::songpigeon_testdata_write(
+            fields.as_ptr(),
+            descriptors.as_ptr(),
+            descriptors.len(),
+            data.as_ptr(),
+            data.len(),
+            place.as_mut_ptr(),
+            place.len(),
+        )
+    }
+}
+
+/// What stands at a place among descriptors that end at another. Refusals 13 and 14.
+pub fn testdata_descriptor(bytes: &[u8], at: usize, end: usize, values: &mut [u32; VALUES]) -> Found {
+    // SAFETY: as above.
+    unsafe {
+        exported::songpigeon_testdata_descriptor(bytes.as_ptr(), bytes.len(), at, end, values.as_mut_ptr())
+    }
+}
+
+/// Writes an elementary_id_descriptor. Refusals 13, then 15.
+pub fn testdata_elementary_id(id_type: u8, pid: u16, place: &mut [u8]) -> Laid {
+    // SAFETY: as above.
+    unsafe { exported::songpigeon_testdata_elementary_id(id_type, pid, place.as_mut_ptr(), place.len()) }
+}
+
+/// Writes a GPS_descriptor. Refusals 13, then 15.
+pub fn testdata_gps(
+    north_south: u8,
+    latitude: u32,
+    east_west: u8,
+    longitude: u32,
+    elevation: u16,
+    place: &mut [u8],
+) -> Laid {
+    // SAFETY: as above.
+    unsafe {
+        exported::songpigeon_testdata_gps(
+            north_south,
+            latitude,
+            east_west,
+            longitude,
+            elevation,
+            place.as_mut_ptr(),
+            place.len(),
+        )
+    }
+}
+
+/// Writes a reduced_PCR_descriptor. Refusal 15.
+pub fn testdata_reduced_pcr(base: u32, place: &mut [u8]) -> Laid {
+    // SAFETY: as above.
+    unsafe { exported::songpigeon_testdata_reduced_pcr(base, place.as_mut_ptr(), place.len()) }
+}
+
+/// Writes a program_descriptor. Refusals 13, then 15.
+pub fn testdata_program(number: u16, reserved: u8, pid: u16, place: &mut [u8]) -> Laid {
+    // SAFETY: as above.
+    unsafe { exported::songpigeon_testdata_program(number, reserved, pid, place.as_mut_ptr(), place.len()) }
+}
+
+/// Writes a descriptor of any tag with its body as it is. Refusals 14, 13, 15 in this order.
+pub fn testdata_other(tag: u8, body: &[u8], place: &mut [u8]) -> Laid {
+    // SAFETY: as above.
+    unsafe {
+        exported::songpigeon_testdata_other(tag, body.as_ptr(), body.len(), place.as_mut_ptr(), place.len())
+    }
 }

@@ -4,15 +4,89 @@
 //! [`Probe`] owns all memory that the engine is lent. [`lent`] has the calls as the static library exports them, for
 //! hosts that keep the state themselves. [`testdata`] reads and writes the sections of DVB A046. Times are ticks of 27
 //! MHz, 0 to 2^62.
+//!
+//! A call reads and writes what it is lent and nothing else: probes in different threads know nothing of each other. It
+//! needs at most 64 KiB of stack.
 
 pub mod lent;
 pub mod testdata;
 
 pub use lent::{Event, Memory, Times, Words};
 
+use std::error::Error;
+use std::fmt;
+
 /// The number under which a call was refused (document 01). A refused call changes nothing.
-#[derive(Clone, Copy, Debug, PartialEq, Eq)]
+#[derive(Clone, Copy, Debug, PartialEq, Eq, Hash)]
 pub struct Refusal(pub u32);
+
+impl Refusal {
+    pub const PACKET: Refusal = Refusal(1);
+    pub const COUNTERS: Refusal = Refusal(2);
+    pub const EVENTS: Refusal = Refusal(3);
+    pub const TIME: Refusal = Refusal(4);
+    pub const STATE: Refusal = Refusal(5);
+    pub const ORDER: Refusal = Refusal(6);
+    pub const KIND: Refusal = Refusal(7);
+    pub const LINE: Refusal = Refusal(8);
+    pub const LENGTH: Refusal = Refusal(11);
+    pub const CRC: Refusal = Refusal(12);
+    pub const UNFIT: Refusal = Refusal(13);
+    pub const DESCRIPTOR_SIZE: Refusal = Refusal(14);
+    pub const PLACE: Refusal = Refusal(15);
+
+    /// What it means, in a few words.
+    pub fn meaning(self) -> &'static str {
+        match self {
+            Refusal::PACKET => "the packet is not 188 bytes",
+            Refusal::COUNTERS => "the counter table is not 8,192 bytes",
+            Refusal::EVENTS => "the event list has room for fewer than 96",
+            Refusal::TIME => "the time is above 2^62",
+            Refusal::STATE => "the state is none that calls leave",
+            Refusal::ORDER => "the time is below the latest accepted one",
+            Refusal::KIND => "the kind of table is not listed",
+            Refusal::LINE => "the line is malformed",
+            Refusal::LENGTH => "the section's length is not right",
+            Refusal::CRC => "the section's CRC_32 is wrong",
+            Refusal::UNFIT => "something runs past its end, or a number is too wide for its field",
+            Refusal::DESCRIPTOR_SIZE => "a descriptor of fixed size has another",
+            Refusal::PLACE => "the lent place is too short",
+            Refusal(_) => "no meaning is known",
+        }
+    }
+}
+
+impl fmt::Display for Refusal {
+    fn fmt(&self, f: &mut fmt::Formatter<'_>) -> fmt::Result {
+        write!(f, "refused with {}: {}", self.0, self.meaning())
+    }
+}
+
+impl Error for Refusal {}
+
+/// Fault numbers, those of Table A.3 of DVB A046.
+pub mod fault {
+    pub const NIT: u16 = 0x0001;
+    pub const SDT: u16 = 0x0002;
+    pub const EIT: u16 = 0x0004;
+    pub const TDT: u16 = 0x0008;
+    pub const PAT: u16 = 0x0009;
+    pub const SYNC_LOSS: u16 = 0x000C;
+    pub const SYNC_BYTE: u16 = 0x000D;
+    pub const CONTINUITY: u16 = 0x000E;
+    pub const PMT: u16 = 0x000F;
+    pub const TRANSPORT: u16 = 0x0011;
+    pub const CRC: u16 = 0x0012;
+}
+
+/// Causes: what parts the ways to one fault.
+pub mod cause {
+    pub const NONE: u8 = 0;
+    pub const LATE: u8 = 1;
+    pub const FOREIGN: u8 = 2;
+    pub const SCRAMBLED: u8 = 3;
+    pub const NOT_ALLOWED: u8 = 4;
+}
 
 /// What a severity is asked for.
 #[derive(Clone, Copy, Debug, PartialEq, Eq)]

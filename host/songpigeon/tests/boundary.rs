@@ -1,8 +1,10 @@
 //! What the boundary asks and gives: sizes and places of fields as `host/songpigeon.h` has them, and each call over it.
 
-use songpigeon::lent::{self, Event, Ran, Reply, Verdict};
-use songpigeon::testdata::{self, Fields};
-use songpigeon::{severity, Kind, Probe, Refusal};
+use songpigeon::lent::{self, Event, Found, Laid, Reply, Verdict};
+use songpigeon::testdata::{self, Descriptor, Fields};
+use songpigeon::{cause, fault, severity, Kind, Probe, Refusal};
+use std::error::Error;
+use std::fs;
 use std::mem::{align_of, size_of};
 
 #[test]
@@ -10,6 +12,8 @@ fn records_are_laid_as_c_lays_them() {
     assert_eq!((size_of::<Event>(), align_of::<Event>()), (16, 8));
     assert_eq!((size_of::<Reply>(), align_of::<Reply>()), (16, 8));
     assert_eq!((size_of::<Verdict>(), align_of::<Verdict>()), (16, 4));
+    assert_eq!((size_of::<Laid>(), align_of::<Laid>()), (16, 8));
+    assert_eq!((size_of::<Found>(), align_of::<Found>()), (32, 8));
     let event = Event { stamp: 1, fault: 2, cause: 3, id: 4 };
     let start = &event as *const Event as usize;
     let at = |place: usize| place - start;
@@ -142,51 +146,142 @@ fn test_data_there_and_back() {
     assert_eq!(testdata::write(&fields, &[0x40, 3], &[], &mut []), Err(Refusal(14)));
 }
 
-/// A run is its packets one by one: the same events, state, table and memory, up to the first refusal.
+/// An indicator of 2 is a number too wide for its field, and a descriptor of another size comes before it.
 #[test]
-fn a_run_is_its_packets_one_by_one() {
-    let mut wrong = packet();
-    let packets: Vec<u8> = (0..40u8)
-        .flat_map(|k| {
-            wrong[0] = if k % 7 < 2 { 0 } else { 0x47 };
-            wrong[3] = 0x10 | (k * 3 % 16);
-            wrong
-        })
-        .collect();
-    let arrivals: Vec<u64> = (0..40).map(|k| if k == 33 { 0 } else { k * 1_000_000 }).collect();
-    let open = || {
-        let (mut times, mut words) = ([0; lent::TIMES], [0; lent::WORDS]);
-        let mut counters = vec![0; lent::COUNTERS];
-        assert_eq!(lent::open(&mut times, &mut words, 0, &mut counters).refusal, 0);
-        (times, words, counters, [0u8; lent::MEMORY])
-    };
-    let (mut times, mut words, mut counters, mut memory) = open();
-    let mut expected = Vec::new();
-    let mut accepted = 0;
-    let mut refusal = 0;
-    for (&time, packet) in arrivals.iter().zip(packets.chunks(188)) {
-        let mut events = [Event::default(); lent::EVENT_ROOM];
-        let reply = lent::packet(&mut times, &mut words, time, packet, &mut counters, &mut memory, &mut events);
-        refusal = reply.refusal;
-        if refusal != 0 {
-            break;
-        }
-        accepted += 1;
-        for e in &events[..reply.n] {
-            expected.extend([e.stamp, e.fault.into(), e.cause.into(), e.id.into()]);
-        }
+fn an_indicator_too_wide() {
+    let mut place = [0xEE; 100];
+    for indicator in [2, 3, 128, 255] {
+        let mut fields = [0; lent::FIELDS];
+        fields[0] = indicator;
+        let written = lent::testdata_write(&fields, &[], &[], &mut place);
+        assert_eq!(written, Laid { refusal: 13, length: 0 });
+        assert_eq!(lent::testdata_write(&fields, &[], &[], &mut []).refusal, 13);
+        assert_eq!(lent::testdata_write(&fields, &[0x40, 3], &[], &mut place).refusal, 14);
     }
-    assert_eq!((accepted, refusal), (33, 6));
-    let (mut t, mut w, mut c, mut m) = open();
-    let mut numbers = vec![77; 4_000];
-    let ran = lent::packets(&mut t, &mut w, &arrivals, &packets, &mut c, &mut m, &mut numbers);
-    assert_eq!(ran, Ran { refusal, accepted, n: expected.len() / 4 });
-    assert_eq!(numbers[..expected.len()], expected);
-    assert!(numbers[expected.len()..].iter().all(|&x| x == 77));
-    assert!((t, w, &c, m) == (times, words, &counters, memory));
-    // 188 bytes for each time, or nothing happens
-    let before = (t, w, c.clone());
-    let ran = lent::packets(&mut t, &mut w, &arrivals[..2], &packets[..375], &mut c, &mut m, &mut numbers);
-    assert_eq!(ran, Ran { refusal: 1, accepted: 0, n: 0 });
-    assert!((t, w, c) == before);
+    assert_eq!(place, [0xEE; 100]);
+}
+
+#[test]
+fn descriptors_there_and_back() {
+    let all = [
+        Descriptor::ElementaryId { id_type: 7, pid: 0x1FFF },
+        Descriptor::Gps { north_south: 1, latitude: 0x7F_FFFF, east_west: 0, longitude: 1, elevation: 0xFFFF },
+        Descriptor::ReducedPcr { base: u32::MAX },
+        Descriptor::Program { number: 0xABCD, reserved: 5, pid: 0x0123 },
+        Descriptor::Other { tag: 0x41, body: b"a text" },
+        Descriptor::Other { tag: 0x00, body: &[] },
+    ];
+    let mut row = Vec::new();
+    for descriptor in all {
+        let mut place = [0xEE; 20];
+        let n = descriptor.write(&mut place).unwrap();
+        assert!(place[n..].iter().all(|&byte| byte == 0xEE));
+        assert_eq!(descriptor.write(&mut place[..n - 1]), Err(Refusal::PLACE));
+        row.extend(&place[..n]);
+    }
+    assert_eq!(testdata::descriptors(&row).collect::<Result<Vec<_>, _>>(), Ok(all.to_vec()));
+    // a refusal is the last that is given
+    let mut cut = testdata::descriptors(&row[..6]);
+    assert_eq!(cut.next(), Some(Ok(all[0])));
+    assert_eq!(cut.next(), Some(Err(Refusal::UNFIT)));
+    assert_eq!(cut.next(), None);
+    assert_eq!(testdata::descriptors(&[0x45, 0]).next(), Some(Err(Refusal::DESCRIPTOR_SIZE)));
+    assert_eq!(testdata::descriptors(&[]).next(), None);
+    let wide = Descriptor::ElementaryId { id_type: 8, pid: 0 };
+    assert_eq!(wide.write(&mut []), Err(Refusal::UNFIT));
+    let other = Descriptor::Other { tag: testdata::PROGRAM, body: &[0; 5] };
+    assert_eq!(other.write(&mut []), Err(Refusal::DESCRIPTOR_SIZE));
+    // places of any size are answered
+    let mut values = [9; lent::VALUES];
+    for (at, end) in [(usize::MAX, usize::MAX), (0, usize::MAX), (usize::MAX, 0), (row.len() + 1, row.len() + 1)] {
+        let found = lent::testdata_descriptor(&row, at, end, &mut values);
+        assert_eq!(found, Found { refusal: 13, kind: lent::NO_MORE, tag: 0, at: 0, length: 0, next: at });
+    }
+    assert_eq!(values, [9; lent::VALUES]);
+}
+
+#[test]
+fn a_refusal_is_an_error_that_says_what_it_is() {
+    let refusal: Box<dyn Error> = Probe::open(u64::MAX).err().unwrap().into();
+    assert_eq!(refusal.to_string(), "refused with 4: the time is above 2^62");
+    assert_eq!(Refusal(99).to_string(), "refused with 99: no meaning is known");
+}
+
+/// The number that the header gives a name, in an `enum` or by `#define`.
+fn in_header(header: &str, name: &str) -> Option<u32> {
+    let value = header.lines().find_map(|line| {
+        let mut words = line.trim().trim_start_matches("#define ").splitn(2, [' ', '=']);
+        if words.next() == Some(name) { words.next() } else { None }
+    })?;
+    let value = value.trim_start_matches([' ', '=']).split([',', ' ']).next()?;
+    match value.strip_prefix("0x") {
+        Some(hex) => u32::from_str_radix(hex, 16).ok(),
+        None => value.parse().ok(),
+    }
+}
+
+/// C and Rust have the same names and numbers, and both the library's version.
+#[test]
+fn the_header_has_the_same_names() {
+    let header = fs::read_to_string("../songpigeon.h").unwrap();
+    let names = [
+        ("REFUSED_PACKET", Refusal::PACKET.0),
+        ("REFUSED_COUNTERS", Refusal::COUNTERS.0),
+        ("REFUSED_EVENTS", Refusal::EVENTS.0),
+        ("REFUSED_TIME", Refusal::TIME.0),
+        ("REFUSED_STATE", Refusal::STATE.0),
+        ("REFUSED_ORDER", Refusal::ORDER.0),
+        ("REFUSED_KIND", Refusal::KIND.0),
+        ("REFUSED_LINE", Refusal::LINE.0),
+        ("REFUSED_LENGTH", Refusal::LENGTH.0),
+        ("REFUSED_CRC", Refusal::CRC.0),
+        ("REFUSED_UNFIT", Refusal::UNFIT.0),
+        ("REFUSED_DESCRIPTOR_SIZE", Refusal::DESCRIPTOR_SIZE.0),
+        ("REFUSED_PLACE", Refusal::PLACE.0),
+        ("FAULT_NIT", fault::NIT.into()),
+        ("FAULT_SDT", fault::SDT.into()),
+        ("FAULT_EIT", fault::EIT.into()),
+        ("FAULT_TDT", fault::TDT.into()),
+        ("FAULT_PAT", fault::PAT.into()),
+        ("FAULT_SYNC_LOSS", fault::SYNC_LOSS.into()),
+        ("FAULT_SYNC_BYTE", fault::SYNC_BYTE.into()),
+        ("FAULT_CONTINUITY", fault::CONTINUITY.into()),
+        ("FAULT_PMT", fault::PMT.into()),
+        ("FAULT_TRANSPORT", fault::TRANSPORT.into()),
+        ("FAULT_CRC", fault::CRC.into()),
+        ("CAUSE_NONE", cause::NONE.into()),
+        ("CAUSE_LATE", cause::LATE.into()),
+        ("CAUSE_FOREIGN", cause::FOREIGN.into()),
+        ("CAUSE_SCRAMBLED", cause::SCRAMBLED.into()),
+        ("CAUSE_NOT_ALLOWED", cause::NOT_ALLOWED.into()),
+        ("KIND_PAT", Kind::Pat as u32),
+        ("KIND_PMT", Kind::Pmt as u32),
+        ("KIND_EIT_0", Kind::Eit0 as u32),
+        ("KIND_EIT_1", Kind::Eit1 as u32),
+        ("KIND_EIT_2_3", Kind::Eit2And3 as u32),
+        ("KIND_STT", Kind::Stt as u32),
+        ("TAG_ELEMENTARY_ID", testdata::ELEMENTARY_ID.into()),
+        ("TAG_GPS", testdata::GPS.into()),
+        ("TAG_REDUCED_PCR", testdata::REDUCED_PCR.into()),
+        ("TAG_PROGRAM", testdata::PROGRAM.into()),
+        ("NO_MORE", lent::NO_MORE.into()),
+        ("OF_FIXED", lent::OF_FIXED.into()),
+        ("OF_OTHER", lent::OF_OTHER.into()),
+        ("TIMES", lent::TIMES as u32),
+        ("WORDS", lent::WORDS as u32),
+        ("COUNTERS", lent::COUNTERS as u32),
+        ("MEMORY", lent::MEMORY as u32),
+        ("EVENTS", lent::EVENT_ROOM as u32),
+        ("FIELDS", lent::FIELDS as u32),
+        ("PLACES", lent::PLACES as u32),
+        ("VALUES", lent::VALUES as u32),
+    ];
+    for (name, number) in names {
+        assert_eq!(in_header(&header, &format!("SONGPIGEON_{}", name)), Some(number), "{}", name);
+    }
+    assert_eq!(in_header(&header, "SONGPIGEON_NO_SUCH_NAME"), None);
+    let part = |name: &str| in_header(&header, &format!("SONGPIGEON_VERSION_{}", name)).unwrap();
+    let version = [part("MAJOR"), part("MINOR"), part("PATCH")];
+    assert_eq!(lent::version(), version[0] * 10_000 + version[1] * 100 + version[2]);
+    assert_eq!(version.map(|n| n.to_string()).join("."), env!("CARGO_PKG_VERSION"));
 }
