@@ -18,7 +18,7 @@ to=${DESTDIR:-}$prefix
 
 bash host/tools.sh gcc
 rt check tsevents
-rt staticlib songpigeon
+bash host/library.sh
 
 made=$(mktemp -d)
 trap 'rm -rf "$made"' EXIT

@@ -19,8 +19,8 @@ note() { # STATUS WHAT
 }
 
 bash host/tools.sh
-rt staticlib songpigeon
-note $? "rt staticlib songpigeon"
+bash host/library.sh
+note $? "host/library.sh"
 
 host() { # SUBCOMMAND ARGUMENTS: cargo in host/, on one core and without a network
     (cd host && cargo "$1" --quiet --offline --release -j 1 --target-dir ../target/host "${@:2}")

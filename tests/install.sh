@@ -52,9 +52,21 @@ note $? "boundary.c through pkg-config"
 g++ -x c++ -std=c++11 -Wall -Wextra -Wpedantic -Werror -fsyntax-only "$prefix/include/songpigeon.h"
 note $? "songpigeon.h in C++"
 for place in tests/host/*/; do
-    "$work/example" "$(cat "$place/rate")" < "$place/stream" | cmp -s - "$place/stdout"
+    want=0
+    ! grep -q '^refused' "$place/stdout" || want=1
+    "$work/example" "$(cat "$place/rate")" < "$place/stream" > "$work/out"
+    [ $? -eq "$want" ] && cmp -s "$work/out" "$place/stdout"
     note $? "example.c on $place"
 done
+"$work/example" 0 < /dev/null > "$work/out" 2> "$work/err"
+[ $? -eq 2 ] && [ ! -s "$work/out" ] && grep -q '^usage: ' "$work/err"
+note $? "example.c with a rate of 0"
+"$work/example" < tests/host/slow/stream > /dev/full 2> "$work/err"
+[ $? -eq 2 ] && grep -q '^writing failed' "$work/err"
+note $? "example.c on a full disk"
+"$work/example" < / > "$work/out" 2> "$work/err"
+[ $? -eq 2 ] && grep -q '^reading failed' "$work/err"
+note $? "example.c on a directory"
 "$work/boundary" > "$work/log"
 if [[ $(tail -n 1 "$work/log") =~ ^([0-9]+)\ passed,\ ([0-9]+)\ failed$ ]]; then
     passed=$((passed + BASH_REMATCH[1]))

@@ -1,4 +1,4 @@
-//! Links the static library that `rt staticlib songpigeon` writes; `SONGPIGEON_LIB` names another folder than
+//! Links the static library that `host/library.sh` writes; `SONGPIGEON_LIB` names another folder than
 //! `target/staticlib`.
 
 use std::env;
