@@ -1,5 +1,6 @@
 // What is said on standard error, a line each time. A piece that does not fit the line is left out.
 use libc::STDERR_FILENO;
+use textlog::MALFORMED_LINE;
 ghost use Prim.Native.Nat.{_≤_};
 ghost use lib.ListN.{length};
 ghost use Rattle.io.specs.Counts.{Counts};
@@ -7,8 +8,6 @@ ghost use Rattle.io.specs.Counts.{Counts};
 const TIME_TOO_LATE: u32 = 4;
 
 const TIME_BACKWARDS: u32 = 6;
-
-const MALFORMED_LINE: u32 = 8;
 
 // A piece laid behind the bytes up to a place; the next place.
 fn join(text: &mut [u8], at: usize, piece: &[u8]) -> usize
