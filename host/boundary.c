@@ -57,7 +57,7 @@ static size_t make_pat(uint8_t *payload, unsigned programmes, unsigned first) {
         entry[3] = (uint8_t)(first + k);
     }
     uint32_t crc = crc_of(section, length);
-    for (int k = 0; k < 4; k++) {
+    for (size_t k = 0; k < 4; k++) {
         section[length + k] = (uint8_t)(crc >> (24 - 8 * k));
     }
     return 1 + length + 4;
@@ -202,7 +202,8 @@ static void test_data(void) {
     CHECK(is_laid(songpigeon_testdata_elementary_id(8, 0x0102, row, 0), SONGPIGEON_REFUSED_UNFIT, 0));
     CHECK(is_laid(songpigeon_testdata_elementary_id(5, 0x0102, row, sizeof row), SONGPIGEON_ACCEPTED, 4));
     n += 4;
-    CHECK(is_laid(songpigeon_testdata_gps(1, 0x000102, 0, 0x030405, 0x0607, row + n, sizeof row - n), SONGPIGEON_ACCEPTED, 10));
+    CHECK(is_laid(songpigeon_testdata_gps(1, 0x000102, 0, 0x030405, 0x0607, row + n, sizeof row - n),
+                  SONGPIGEON_ACCEPTED, 10));
     CHECK(is_laid(songpigeon_testdata_gps(2, 0, 0, 0, 0, row + n, 0), SONGPIGEON_REFUSED_UNFIT, 0));
     n += 10;
     CHECK(is_laid(songpigeon_testdata_reduced_pcr(0x01020304, row + n, sizeof row - n), SONGPIGEON_ACCEPTED, 6));
@@ -210,12 +211,14 @@ static void test_data(void) {
     CHECK(is_laid(songpigeon_testdata_program(0x0102, 3, 0x0103, row + n, sizeof row - n), SONGPIGEON_ACCEPTED, 6));
     CHECK(is_laid(songpigeon_testdata_program(0x0102, 3, 0x2000, row + n, 0), SONGPIGEON_REFUSED_UNFIT, 0));
     n += 6;
-    CHECK(is_laid(songpigeon_testdata_other(0x41, (const uint8_t *)"U", 1, row + n, sizeof row - n), SONGPIGEON_ACCEPTED, 3));
+    CHECK(is_laid(songpigeon_testdata_other(0x41, (const uint8_t *)"U", 1, row + n, sizeof row - n),
+                  SONGPIGEON_ACCEPTED, 3));
     CHECK(is_laid(songpigeon_testdata_other(SONGPIGEON_TAG_GPS, (const uint8_t *)"U", 1, row + n, 0),
                   SONGPIGEON_REFUSED_DESCRIPTOR_SIZE, 0));
     CHECK(is_laid(songpigeon_testdata_other(0x41, long_data, 256, row + n, 0), SONGPIGEON_REFUSED_UNFIT, 0));
     n += 3;
-    CHECK(n == 29 && memcmp(row, "\x40\x02\xA1\x02\x45\x08\x80\x01\x02\x03\x04\x05\x06\x07\x46\x04\x01\x02\x03\x04", 20) == 0);
+    CHECK(n == 29 &&
+          memcmp(row, "\x40\x02\xA1\x02\x45\x08\x80\x01\x02\x03\x04\x05\x06\x07\x46\x04\x01\x02\x03\x04", 20) == 0);
     CHECK(memcmp(row + 20, "\x47\x04\x01\x02\x61\x03\x41\x01U", 9) == 0);
     /* the section there and back */
     CHECK(is_laid(songpigeon_testdata_write(fields, row, n, (const uint8_t *)"xyz", 3, section, sizeof section),
@@ -235,12 +238,14 @@ static void test_data(void) {
     CHECK(d.kind == SONGPIGEON_OF_FIXED && d.tag == SONGPIGEON_TAG_GPS);
     CHECK(values[0] == 1 && values[1] == 0x000102 && values[2] == 0 && values[3] == 0x030405 && values[4] == 0x0607);
     d = songpigeon_testdata_descriptor(section, length, d.next, end, values);
-    CHECK(d.kind == SONGPIGEON_OF_FIXED && d.tag == SONGPIGEON_TAG_REDUCED_PCR && values[0] == 0x01020304 && values[1] == 0);
+    CHECK(d.kind == SONGPIGEON_OF_FIXED && d.tag == SONGPIGEON_TAG_REDUCED_PCR && values[0] == 0x01020304 &&
+          values[1] == 0);
     d = songpigeon_testdata_descriptor(section, length, d.next, end, values);
     CHECK(d.kind == SONGPIGEON_OF_FIXED && d.tag == SONGPIGEON_TAG_PROGRAM);
     CHECK(values[0] == 0x0102 && values[1] == 3 && values[2] == 0x0103 && values[3] == 0);
     d = songpigeon_testdata_descriptor(section, length, d.next, end, values);
-    CHECK(d.kind == SONGPIGEON_OF_OTHER && d.tag == 0x41 && d.length == 1 && section[d.at] == 'U' && values[0] == 0x0102);
+    CHECK(d.kind == SONGPIGEON_OF_OTHER && d.tag == 0x41 && d.length == 1 && section[d.at] == 'U' &&
+          values[0] == 0x0102);
     d = songpigeon_testdata_descriptor(section, length, d.next, end, values);
     CHECK(d.refusal == SONGPIGEON_ACCEPTED && d.kind == SONGPIGEON_NO_MORE && d.next == end);
     d = songpigeon_testdata_descriptor(section, length, end, end + 1, values);
@@ -254,25 +259,29 @@ static void test_data(void) {
     section[length - 1] ^= 1;
     CHECK(songpigeon_testdata_read(section, length, back, places) == SONGPIGEON_REFUSED_CRC);
     CHECK(is_laid(songpigeon_testdata_write(fields, row, n, long_data, 0, section, 13), SONGPIGEON_REFUSED_PLACE, 0));
-    CHECK(is_laid(songpigeon_testdata_write(fields, row, n, long_data, sizeof long_data, section, 0), SONGPIGEON_REFUSED_UNFIT, 0));
+    CHECK(is_laid(songpigeon_testdata_write(fields, row, n, long_data, sizeof long_data, section, 0),
+                  SONGPIGEON_REFUSED_UNFIT, 0));
     /* an indicator of 2 is too wide for its field; a descriptor of another size comes before it */
     fields[SONGPIGEON_FIELD_SYNTAX_INDICATOR] = 2;
     memset(section, 0xEE, sizeof section);
-    CHECK(is_laid(songpigeon_testdata_write(fields, row, n, long_data, 0, section, sizeof section), SONGPIGEON_REFUSED_UNFIT, 0));
-    CHECK(is_laid(songpigeon_testdata_write(fields, (const uint8_t *)"\x40\x03", 2, long_data, 0, section, sizeof section),
-                  SONGPIGEON_REFUSED_DESCRIPTOR_SIZE, 0));
+    CHECK(is_laid(songpigeon_testdata_write(fields, row, n, long_data, 0, section, sizeof section),
+                  SONGPIGEON_REFUSED_UNFIT, 0));
+    CHECK(is_laid(
+        songpigeon_testdata_write(fields, (const uint8_t *)"\x40\x03", 2, long_data, 0, section, sizeof section),
+        SONGPIGEON_REFUSED_DESCRIPTOR_SIZE, 0));
     CHECK(section[0] == 0xEE && section[127] == 0xEE);
     fields[SONGPIGEON_FIELD_SYNTAX_INDICATOR] = 0;
-    CHECK(is_laid(songpigeon_testdata_write(fields, row, 0, (const uint8_t *)"xyz", 3, section, sizeof section), SONGPIGEON_ACCEPTED, 6));
+    CHECK(is_laid(songpigeon_testdata_write(fields, row, 0, (const uint8_t *)"xyz", 3, section, sizeof section),
+                  SONGPIGEON_ACCEPTED, 6));
 }
 
-/* ---- The stack: all of the above once more, on one that is painted first. */
+/* ---- The stack: calls on one that is painted first. */
 enum { STACK = 1 << 20, PAINT = 0xC5 };
 
 static ucontext_t outside;
 static ucontext_t inside;
 
-/* A call with its own frame and nothing else on the painted stack. */
+/* The calls that go deepest: programme lists that move half-built sections, everything late at once, test data. */
 static void deepest_calls(void) {
     static uint8_t packet[SONGPIGEON_PACKET];
     static uint8_t payload[184];
@@ -321,7 +330,8 @@ static void *work(void *place) {
     for (uint64_t time = 1; time < 200000; time++) {
         seed = seed * UINT64_C(6364136223846793005) + 1;
         if (seed >> 60 == 0) {
-            make(packet, 1, 0, (unsigned)(seed >> 56 & 15), payload, make_pat(payload, 16, (unsigned)(seed >> 40 & 31)));
+            make(packet, 1, 0, (unsigned)(seed >> 56 & 15), payload,
+                 make_pat(payload, 16, (unsigned)(seed >> 40 & 31)));
         } else {
             make(packet, 0, (unsigned)(seed >> 50 & 0x1FFF), (unsigned)(seed >> 40 & 15), payload, 0);
         }

@@ -38,8 +38,8 @@ uint32_t songpigeon_version(void);
 /* Sizes. */
 enum {
     SONGPIGEON_PACKET = 188,
-    SONGPIGEON_TIMES = 22,      /* latest time; gap starts of PAT, NIT, SDT, EIT, TDT; of the sixteen places of the list */
-    SONGPIGEON_WORDS = 56,      /* 16 programme numbers, 16 PIDs, 21 half-built lengths, sync lost, run, length of the list */
+    SONGPIGEON_TIMES = 22, /* latest time; gap starts of PAT, NIT, SDT, EIT, TDT; of the list's sixteen places */
+    SONGPIGEON_WORDS = 56, /* 16 programme numbers, 16 PIDs, 21 half-built lengths, sync lost, run, list's length */
     SONGPIGEON_COUNTERS = 8192, /* one byte for each PID */
     SONGPIGEON_MEMORY = 24576,  /* half-built sections */
     SONGPIGEON_EVENTS = 96,     /* the least room for events; a call has at most 87 */
@@ -53,19 +53,19 @@ enum {
  * their own. */
 enum {
     SONGPIGEON_ACCEPTED = 0,
-    SONGPIGEON_REFUSED_PACKET = 1,          /* the packet is not 188 bytes */
-    SONGPIGEON_REFUSED_COUNTERS = 2,        /* the counter table is not 8,192 bytes */
-    SONGPIGEON_REFUSED_EVENTS = 3,          /* the event list has room for fewer than 96 */
-    SONGPIGEON_REFUSED_TIME = 4,            /* the time is above 2^62 */
-    SONGPIGEON_REFUSED_STATE = 5,           /* the state, or the packet's table byte, is none that calls leave */
-    SONGPIGEON_REFUSED_ORDER = 6,           /* the time is below the latest accepted one */
-    SONGPIGEON_REFUSED_KIND = 7,            /* severity is asked for a kind that is not listed */
-    SONGPIGEON_REFUSED_LINE = 8,            /* a malformed line; by the program `tsevents` alone */
-    SONGPIGEON_REFUSED_LENGTH = 11,         /* not the length that the section gives, below its fixed fields or too long */
-    SONGPIGEON_REFUSED_CRC = 12,            /* CRC_32 */
-    SONGPIGEON_REFUSED_UNFIT = 13,          /* runs past its end; written: too long, or a number too wide for its field */
+    SONGPIGEON_REFUSED_PACKET = 1,   /* the packet is not 188 bytes */
+    SONGPIGEON_REFUSED_COUNTERS = 2, /* the counter table is not 8,192 bytes */
+    SONGPIGEON_REFUSED_EVENTS = 3,   /* the event list has room for fewer than 96 */
+    SONGPIGEON_REFUSED_TIME = 4,     /* the time is above 2^62 */
+    SONGPIGEON_REFUSED_STATE = 5,    /* the state, or the packet's table byte, is none that calls leave */
+    SONGPIGEON_REFUSED_ORDER = 6,    /* the time is below the latest accepted one */
+    SONGPIGEON_REFUSED_KIND = 7,     /* severity is asked for a kind that is not listed */
+    SONGPIGEON_REFUSED_LINE = 8,     /* a malformed line; by the program `tsevents` alone */
+    SONGPIGEON_REFUSED_LENGTH = 11,  /* not the length that the section gives, below its fixed fields or too long */
+    SONGPIGEON_REFUSED_CRC = 12,     /* CRC_32 */
+    SONGPIGEON_REFUSED_UNFIT = 13,   /* runs past its end; written: too long, or a number too wide for its field */
     SONGPIGEON_REFUSED_DESCRIPTOR_SIZE = 14, /* a descriptor of fixed size has another */
-    SONGPIGEON_REFUSED_PLACE = 15           /* the lent place is too short */
+    SONGPIGEON_REFUSED_PLACE = 15            /* the lent place is too short */
 };
 
 /* Faults, by Table A.3 of DVB A046, with their indicators of TR 101 290. */
@@ -163,11 +163,11 @@ enum {
 };
 
 enum {
-    SONGPIGEON_CLASS_TNC = 1,  /* technically not conformant */
-    SONGPIGEON_CLASS_QOS = 2,  /* quality of service */
-    SONGPIGEON_CLASS_CM = 4,   /* component missing */
-    SONGPIGEON_CLASS_POA = 8,  /* programme off air */
-    SONGPIGEON_CLASS_TOA = 16  /* transport stream off air */
+    SONGPIGEON_CLASS_TNC = 1, /* technically not conformant */
+    SONGPIGEON_CLASS_QOS = 2, /* quality of service */
+    SONGPIGEON_CLASS_CM = 4,  /* component missing */
+    SONGPIGEON_CLASS_POA = 8, /* programme off air */
+    SONGPIGEON_CLASS_TOA = 16 /* transport stream off air */
 };
 
 /* the set of classes, how many they are, and the worst of them */
@@ -228,9 +228,9 @@ songpigeon_laid songpigeon_testdata_write(const uint8_t *fields, const uint8_t *
 /* Tags of the descriptors of fixed size (Table 4), and their numbers in `values`. */
 enum {
     SONGPIGEON_TAG_ELEMENTARY_ID = 0x40, /* id_type (3 bits), PID (13) */
-    SONGPIGEON_TAG_GPS = 0x45,           /* north_south (1), latitude (23), east_west (1), longitude (23), elevation (16) */
-    SONGPIGEON_TAG_REDUCED_PCR = 0x46,   /* base (32) */
-    SONGPIGEON_TAG_PROGRAM = 0x47        /* number (16), reserved (3), PID (13) */
+    SONGPIGEON_TAG_GPS = 0x45, /* north_south (1), latitude (23), east_west (1), longitude (23), elevation (16) */
+    SONGPIGEON_TAG_REDUCED_PCR = 0x46, /* base (32) */
+    SONGPIGEON_TAG_PROGRAM = 0x47      /* number (16), reserved (3), PID (13) */
 };
 
 enum {

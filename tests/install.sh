@@ -105,6 +105,8 @@ done
 LC_ALL=C.UTF-8 MANWIDTH=200 man --warnings -E UTF-8 -l docs/tsevents.1 > "$work/page" 2> "$work/err"
 [ $? -eq 0 ] && [ ! -s "$work/err" ]
 note $? "man -l docs/tsevents.1: $(cat "$work/err")"
+grep -qF "Songpigeon $(pkg-config --modversion songpigeon)" docs/tsevents.1
+note $? "the version in the manual page"
 tr -d ' \n' < "$work/page" | grep -qF -- "$(tr -d ' \n' <<< "$recipe")"
 note $? "the manual page has README's recipe"
 

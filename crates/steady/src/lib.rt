@@ -2,6 +2,8 @@
 // take (EAGAIN) after a pause, so that waiting costs no time of the processor. What is read and written no
 // contract can say.
 use libc::types::timespec;
+ghost use mathlib.Core.Path.{_≡_};
+ghost use mathlib.Core.Bool.{true};
 ghost use Prim.Native.Nat.{_≤_};
 ghost use lib.ListN.{length};
 ghost use Rattle.io.specs.Counts.{Counts};
@@ -41,7 +43,7 @@ fn again() -> bool {
 
 // One read.
 pub fn read_some(fd: i32, buf: &mut [u8]) -> Got
-    ensures { λ r. ⌜ Counts (r .n) (now (buf .exit)) ⌝ }
+    ensures { λ r. ⌜ Counts (r .n) (now (buf .exit)) × (r .failed ≡ true → r .n ≡ 0) ⌝ }
 {
     let mut left = MOST_TRIES;
     while 0 < left {

@@ -109,7 +109,15 @@ fn write_cuts(root: &Path) -> io::Result<bool> {
 
 fn main() -> io::Result<()> {
     let root = env::args().nth(1).unwrap_or_else(|| "tests".to_string());
-    let parts = [text::cases(), watches::cases(), sync::cases(), continuity::cases(), sections::cases(), list::cases(), night::cases()];
+    let parts = [
+        text::cases(),
+        watches::cases(),
+        sync::cases(),
+        continuity::cases(),
+        sections::cases(),
+        list::cases(),
+        night::cases(),
+    ];
     let cases: Vec<Case> = parts.into_iter().flatten().collect();
     let mut differ = 0;
     for case in &cases {

@@ -44,12 +44,7 @@ fn slow() -> Vec<u8> {
 
 /// A second and a half in which PAT and PMT come every 0.2 s, and at whose end nothing is late.
 fn healthy() -> Vec<u8> {
-    let pair = |k: u8| {
-        [
-            Packet::sections(PAT_PID, k, &[&pat(&[(1, 0x0100)])]),
-            Packet::sections(0x0100, k, &[&pmt(1)]),
-        ]
-    };
+    let pair = |k: u8| [Packet::sections(PAT_PID, k, &[&pat(&[(1, 0x0100)])]), Packet::sections(0x0100, k, &[&pmt(1)])];
     let packets: Vec<Packet> = (0..7).flat_map(pair).collect();
     bytes(&packets)
 }

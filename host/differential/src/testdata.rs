@@ -131,7 +131,10 @@ pub fn bytes_round(random: &Random, seen: &mut Coverage) -> Result<(), String> {
         Err(refusal) => lent::Laid { refusal, length: 0 },
     };
     if replied != found || place != product_place {
-        return Err(format!("writing {:?} {:?} into {} bytes: {:?}, {:?}", fields, descriptors, length, expected, found));
+        return Err(format!(
+            "writing {:?} {:?} into {} bytes: {:?}, {:?}",
+            fields, descriptors, length, expected, found
+        ));
     }
     if fields[0] > 1 {
         seen.met(format!("test data indicator too wide refused {}", found.refusal));
@@ -161,7 +164,11 @@ fn random_descriptors<'a>(body: &'a [u8], random: &Random) -> (reference::Descri
     use {product::Descriptor as P, reference::Descriptor as R};
     let wide = |bits: u32| {
         let all = random.number() as u32;
-        if random.once_in(12) { all } else { all & (u32::MAX >> (32 - bits)) }
+        if random.once_in(12) {
+            all
+        } else {
+            all & (u32::MAX >> (32 - bits))
+        }
     };
     match random.below(5) {
         0 => {

@@ -254,9 +254,7 @@ pub fn testdata_write(fields: &[u8; FIELDS], descriptors: &[u8], data: &[u8], pl
 /// What stands at a place among descriptors that end at another. Refusals 13 and 14.
 pub fn testdata_descriptor(bytes: &[u8], at: usize, end: usize, values: &mut [u32; VALUES]) -> Found {
     // SAFETY: as above.
-    unsafe {
-        exported::songpigeon_testdata_descriptor(bytes.as_ptr(), bytes.len(), at, end, values.as_mut_ptr())
-    }
+    unsafe { exported::songpigeon_testdata_descriptor(bytes.as_ptr(), bytes.len(), at, end, values.as_mut_ptr()) }
 }
 
 /// Writes an elementary_id_descriptor. Refusals 13, then 15.
@@ -303,7 +301,5 @@ pub fn testdata_program(number: u16, reserved: u8, pid: u16, place: &mut [u8]) -
 /// Writes a descriptor of any tag with its body as it is. Refusals 14, 13, 15 in this order.
 pub fn testdata_other(tag: u8, body: &[u8], place: &mut [u8]) -> Laid {
     // SAFETY: as above.
-    unsafe {
-        exported::songpigeon_testdata_other(tag, body.as_ptr(), body.len(), place.as_mut_ptr(), place.len())
-    }
+    unsafe { exported::songpigeon_testdata_other(tag, body.as_ptr(), body.len(), place.as_mut_ptr(), place.len()) }
 }

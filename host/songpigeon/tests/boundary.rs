@@ -211,7 +211,11 @@ fn a_refusal_is_an_error_that_says_what_it_is() {
 fn in_header(header: &str, name: &str) -> Option<u32> {
     let value = header.lines().find_map(|line| {
         let mut words = line.trim().trim_start_matches("#define ").splitn(2, [' ', '=']);
-        if words.next() == Some(name) { words.next() } else { None }
+        if words.next() == Some(name) {
+            words.next()
+        } else {
+            None
+        }
     })?;
     let value = value.trim_start_matches([' ', '=']).split([',', ' ']).next()?;
     match value.strip_prefix("0x") {

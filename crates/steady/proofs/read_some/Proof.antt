@@ -1,6 +1,7 @@
 -- `steady::read_some` meets its contract. Assumes nothing.
 use borrow.Author.Needs.{needs}
-use mathlib.Core.Path.{_≡_}
+use mathlib.Core.Path.{_≡_, sym}
+use mathlib.Core.Bool.{true≢false}
 use lib.ListN.{length}
 use Rattle.steady.proofs.read_some.Statement.{statement}
 use Rattle.steady.proofs.read_some.Tie as tie
@@ -24,7 +25,7 @@ same-length : tie.Need-same-length Inv-loop μ-loop
 same-length c = search needs
 
 returns : tie.Need-returns Inv-loop μ-loop
-returns c = search needs
+returns c = (search needs, λ e. absurd (true≢false (sym e)))
 
 again-requires : tie.Need-again-requires Inv-loop μ-loop
 again-requires c κs = search needs
