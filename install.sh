@@ -7,14 +7,24 @@
 #   PREFIX/lib/libsongpigeon.a           the library, found by `pkg-config songpigeon`
 #   PREFIX/include/songpigeon.h
 #   PREFIX/share/man/man1/tsevents.1
+#   PREFIX/share/doc/songpigeon/EVENTS.md
 #
 # With DESTDIR set, the files are written below it, as packagers want it; what they say of each other stays
 # PREFIX.
 set -euo pipefail
-[ $# -le 1 ] || { echo "usage: bash install.sh [PREFIX]" >&2; exit 2; }
-prefix=$(realpath -ms "${1:-/usr/local}")
+prefix=${1-/usr/local}
+if [ $# -gt 1 ] || [[ $prefix = "" || $prefix = -* ]]; then
+    echo "usage: bash install.sh [PREFIX]" >&2
+    exit 2
+fi
+prefix=$(realpath -ms -- "$prefix")
+if [[ ! $prefix =~ ^[A-Za-z0-9/._+@~-]+$ ]]; then
+    echo "install.sh: pkg-config and its users cannot take a prefix with such characters: $prefix" >&2
+    exit 2
+fi
+to=$prefix
+[ -z "${DESTDIR:-}" ] || to=$(realpath -ms -- "$DESTDIR")$prefix
 cd "$(dirname "$0")"
-to=${DESTDIR:-}$prefix
 
 bash host/tools.sh gcc
 rt check tsevents
@@ -42,4 +52,5 @@ install -D -m 644 target/staticlib/libsongpigeon.a "$to/lib/libsongpigeon.a"
 install -D -m 644 "$made/songpigeon.pc" "$to/lib/pkgconfig/songpigeon.pc"
 install -D -m 644 host/songpigeon.h "$to/include/songpigeon.h"
 install -D -m 644 docs/tsevents.1 "$to/share/man/man1/tsevents.1"
+install -D -m 644 docs/EVENTS.md "$to/share/doc/songpigeon/EVENTS.md"
 echo "installed under $to"

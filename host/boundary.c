@@ -1,5 +1,5 @@
-/* The boundary as a host in C meets it: each call, each name of the header, the stack that a call needs, and cards in two
- * threads. Prints what does not hold, then how many checks there were; ends with 1 where one does not hold. */
+/* The boundary as a host in C meets it: each call under the names of the header, the stack that a call needs, and cards in
+ * two threads. Prints what does not hold, then how many checks there were; ends with 1 where one does not hold. */
 #define _XOPEN_SOURCE 700
 #include "songpigeon.h"
 

@@ -10,6 +10,7 @@
 #include <inttypes.h>
 #include <stdio.h>
 #include <stdlib.h>
+#include <string.h>
 
 enum { READ_TO_ITS_END = 0, REFUSED = 1, FAILED = 2 };
 
@@ -50,9 +51,9 @@ static int judge(FILE *stream, uint64_t rate) {
 }
 
 int main(int count, char **arguments) {
-    char *end = "";
-    unsigned long long rate = count > 1 ? strtoull(arguments[1], &end, 10) : 38000000;
-    if (count > 2 || *end != '\0' || rate == 0 || rate > UINT64_C(1000000000000)) {
+    const char *digits = count > 1 ? arguments[1] : "38000000";
+    uint64_t rate = strtoull(digits, NULL, 10);
+    if (count > 2 || strspn(digits, "0123456789") != strlen(digits) || rate == 0 || rate > UINT64_C(1000000000000)) {
         fputs("usage: example [BITS_A_SECOND] < recording.ts\n", stderr);
         return FAILED;
     }

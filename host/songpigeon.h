@@ -183,7 +183,7 @@ songpigeon_verdict songpigeon_severity(size_t kind, uint64_t gap);
 
 /* ---- Test data sections of DVB A046. */
 
-/* The order of the twelve fields (Table 1), a byte each, with their bits. The last eight are of a section whose
+/* The twelve fields of Table 1, a byte each and in this order, with their bits. The last eight are of a section whose
  * section_syntax_indicator is 1; of others they are read as 0 and not looked at when written. */
 enum {
     SONGPIGEON_FIELD_SYNTAX_INDICATOR = 0, /* 1 */

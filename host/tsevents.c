@@ -10,6 +10,7 @@
 #define _GNU_SOURCE
 #include <errno.h>
 #include <fcntl.h>
+#include <poll.h>
 #include <signal.h>
 #include <stdio.h>
 #include <string.h>
@@ -28,23 +29,32 @@ enum { READ_TO_ITS_END = 0, LINE_REFUSED = 1, FAILED = 2 };
 /* How a line begins that says that a line of the log is refused; every other line says that something failed. */
 static const char refused[] = "tsevents: line ";
 
-static void write_all(int file, const char *bytes, size_t length) {
+/* Where nobody takes it, it is not said; the exit status still tells. */
+static void say(const char *bytes, size_t length) {
     while (length > 0) {
-        ssize_t put = write(file, bytes, length);
-        if (put < 0 && errno != EINTR) {
-            return; /* nobody hears it; the exit status still tells */
-        }
+        ssize_t put = write(STDERR_FILENO, bytes, length);
         if (put > 0) {
             bytes += put;
             length -= (size_t)put;
+        } else if (put < 0 && errno == EAGAIN) {
+            struct pollfd room = {STDERR_FILENO, POLLOUT, 0};
+            poll(&room, 1, -1);
+        } else if (put == 0 || errno != EINTR) {
+            return;
         }
     }
 }
 
-static int fail(const char *what) {
-    char text[256];
-    int length = snprintf(text, sizeof text, "tsevents: %s: %s\n", what, strerror(errno));
-    write_all(STDERR_FILENO, text, (size_t)length);
+static void say_line(const char *what, const char *why) {
+    say("tsevents: ", strlen("tsevents: "));
+    say(what, strlen(what));
+    say(": ", 2);
+    say(why, strlen(why));
+    say("\n", 1);
+}
+
+static int cannot_run(void) {
+    say_line("cannot run " SONGPIGEON_PROGRAM, strerror(errno));
     return FAILED;
 }
 
@@ -62,21 +72,29 @@ static int open_pipe(int ends[2]) {
     return ends[0] < 0 || ends[1] < 0 ? -1 : 0;
 }
 
-/* In the child: the proved program, which is ended where this one ends. */
+/* In the child: the proved program, which ends where its parent ends. In a process namespace of its own it sees the parent
+ * as 0. */
 static void run(pid_t parent, int said, char **arguments) {
-    if (dup2(said, STDERR_FILENO) < 0 || prctl(PR_SET_PDEATHSIG, SIGTERM) < 0 || getppid() != parent) {
-        _exit(FAILED);
+    static char name[] = "tsevents";
+    static char *none[] = {name, NULL};
+    if (dup2(said, STDERR_FILENO) < 0 || prctl(PR_SET_PDEATHSIG, SIGKILL) < 0) {
+        _exit(cannot_run());
     }
-    arguments[0] = "tsevents";
-    execv(SONGPIGEON_PROGRAM, arguments);
-    fail("cannot run " SONGPIGEON_PROGRAM);
-    _exit(FAILED);
+    if (getppid() != parent && getppid() != 0) {
+        _exit(FAILED); /* the parent has ended already */
+    }
+    if (arguments[0] != NULL) {
+        arguments[0] = name;
+    }
+    execv(SONGPIGEON_PROGRAM, arguments[0] != NULL ? arguments : none);
+    _exit(cannot_run());
 }
 
-/* What is said is passed on. Answers FAILED where a line of it says so, LINE_REFUSED where only that is said. */
+/* What is said is passed on. Answers LINE_REFUSED where each line of it says that, FAILED where another says something
+ * else or is cut off. */
 static int pass_on(int said) {
     char bytes[4096];
-    size_t column = 0; /* so many bytes of the present line are as those of `refused` */
+    size_t column = 0; /* so many bytes of the present line are those of `refused` */
     int is_refusal = 1;
     int status = READ_TO_ITS_END;
     for (;;) {
@@ -84,17 +102,15 @@ static int pass_on(int said) {
         if (got < 0 && errno == EINTR) {
             continue;
         }
-        if (got < 0) {
-            return fail("cannot hear the program");
+        if (got <= 0) {
+            return got == 0 && column == 0 && is_refusal ? status : FAILED;
         }
-        if (got == 0) {
-            return column == 0 && is_refusal ? status : FAILED; /* a line without its end was cut off */
-        }
-        write_all(STDERR_FILENO, bytes, (size_t)got);
+        say(bytes, (size_t)got);
         for (ssize_t k = 0; k < got; k++) {
             if (bytes[k] == '\n') {
-                int whole = is_refusal && column == sizeof refused - 1;
-                status = whole ? (status == FAILED ? FAILED : LINE_REFUSED) : FAILED;
+                if (status != FAILED) {
+                    status = is_refusal && column == sizeof refused - 1 ? LINE_REFUSED : FAILED;
+                }
                 column = 0;
                 is_refusal = 1;
             } else if (is_refusal && column < sizeof refused - 1) {
@@ -106,31 +122,31 @@ static int pass_on(int said) {
 }
 
 int main(int count, char **arguments) {
-    char *none[] = {"tsevents", NULL};
     int ends[2];
     int ending = 0;
     pid_t parent = getpid();
+    (void)count;
+    signal(SIGCHLD, SIG_DFL); /* or the system may forget how the program ended */
     if (open_pipe(ends) < 0) {
-        return fail("no pipe");
+        return cannot_run();
     }
     pid_t child = fork();
-    if (child < 0) {
-        return fail("no process");
-    }
     if (child == 0) {
-        run(parent, ends[1], count > 0 ? arguments : none);
+        run(parent, ends[1], arguments);
+    }
+    signal(SIGPIPE, SIG_IGN); /* here alone: nobody may hear what is said, and the program goes on */
+    if (child < 0) {
+        return cannot_run();
     }
     close(ends[1]);
     int status = pass_on(ends[0]);
     while (waitpid(child, &ending, 0) < 0) {
         if (errno != EINTR) {
-            return fail("the program is lost");
+            return cannot_run();
         }
     }
     if (WIFSIGNALED(ending)) {
-        char text[128];
-        int length = snprintf(text, sizeof text, "tsevents: ended by a signal: %s\n", strsignal(WTERMSIG(ending)));
-        write_all(STDERR_FILENO, text, (size_t)length);
+        say_line("ended by a signal", strsignal(WTERMSIG(ending)));
         return FAILED;
     }
     return WEXITSTATUS(ending) == 0 ? status : FAILED;

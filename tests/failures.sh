@@ -1,7 +1,7 @@
 #!/usr/bin/env bash
 # What goes wrong is said. Each row is a call of `tsevents` that fails, or seems to: it is made with the proved
-# program, which ends with 0 always, and with what is installed over it, which tells by its exit status. Both
-# print the row's text on standard output and on standard error, and nothing else.
+# program, which ends with 0 unless a signal ends it, and with what is installed over it, which tells by its exit
+# status. Both print the row's text on standard output and on standard error, and nothing else.
 set -uo pipefail
 cd "$(dirname "$0")/.." || exit 1
 passed=0
@@ -82,15 +82,21 @@ row "a full disk" 2 "" "tsevents: writing failed behind line 0: No space left on
 row "a closed standard output" 2 "" "tsevents: writing failed behind line 0: Bad file descriptor\n" '"$tsevents" < "$log" >&-'
 row "a closed standard output, and a file that takes its place" 2 "" \
     "tsevents: writing failed behind line 0: Bad file descriptor\n" '"$tsevents" "$log" >&-'
+row "closed standard output and error" 2 "" "" '"$tsevents" "$log" >&- 2>&-'
+row "everything closed" 2 "" "" '"$tsevents" <&- >&- 2>&-'
+row "closed standard input and error" 2 "$head" "" '"$tsevents" <&- 2>&-'
+row "closed standard input and output" 2 "" "tsevents: writing failed behind line 0: Bad file descriptor\n" '"$tsevents" <&- >&-'
+row "a closed standard error, and nothing to say" 0 "$head$event" "" '"$tsevents" "$log" 2>&-'
 row "a disk that is full after the header" 2 "$head" "tsevents: writing failed behind line 0: No space left on device\n" \
     'FAULTY_WRITES=+n LD_PRELOAD=$tools/faults.so "$tsevents" < "$log"'
 row "a disk that is full behind the second line" 2 "$head" \
     "tsevents: writing failed behind line 2: No space left on device\n" \
     'FAULTY_WRITES=+n LD_PRELOAD=$tools/faults.so "$tsevents" < <(head -n 2 "$log"; sleep 0.3; tail -n 1 "$log")'
-row "a write that takes nothing" 2 "$head" "" 'FAULTY_WRITES=+0 LD_PRELOAD=$tools/faults.so "$tsevents" < "$log" 2> "$tools/said"
-    status=$?; grep -q "^tsevents: writing failed behind line 0: " "$tools/said" && exit $status'
+row "a write that takes nothing, for no reason" 2 "$head" "tsevents: writing failed behind line 0\n" \
+    'FAULTY_WRITES=+0 LD_PRELOAD=$tools/faults.so "$tsevents" < "$log"'
 row "a disk that says so only when it is closed" 2 "$head$event" "tsevents: writing failed at the end: Input/output error\n" \
-    'FAULTY_CLOSE=1 LD_PRELOAD=$tools/faults.so "$tsevents" < "$log"'
+    'FAULTY_CLOSE=e LD_PRELOAD=$tools/faults.so "$tsevents" < "$log"'
+row "a signal that breaks the closing" 0 "$head$event" "" 'FAULTY_CLOSE=i LD_PRELOAD=$tools/faults.so "$tsevents" < "$log"'
 row "an output that nobody reads" 2 "" "tsevents: ended by a signal: Broken pipe\n" '
     # the proved program is ended by the signal itself, and so is not silent either
     { sleep 0.3; "$tsevents" "$log" || { s=$?; [ $s -ne 141 ] || { echo "tsevents: ended by a signal: Broken pipe" >&2; s=0; }; exit $s; }; } | :
@@ -116,6 +122,16 @@ row "an output that does not block and is slow" 0 "20001" "" '
     { printf "0\t-\n"; seq 20000 | awk "{ printf \"%d\t478000%0370d\n\", \$1, 0 }"; } > "$tools/long"
     "$tools/nonblocking" 1 "$tsevents" "$tools/long" | { sleep 0.3; wc -l | tr -d "\n"; }; exit ${PIPESTATUS[0]}'
 
+row "a standard error that does not block and is full for a while" 2 "$head" "" '
+    rm -f "$tools/full"; mkfifo "$tools/full"; exec 3<> "$tools/full"
+    "$tools/nonblocking" 3 /bin/sh -c "head -c 1000000 /dev/zero >&3" 2> /dev/null
+    { sleep 0.3; head -c 65536 <&3 > /dev/null; } &
+    "$tsevents" / 2>&3; status=$?
+    wait
+    timeout 5 cat <&3 2> /dev/null | grep -aq "^tsevents: reading failed behind line 0" || status=9
+    exit $status'
+row "a parent that ignores the end of its children" 0 "$head$event" "" 'trap "" CHLD; "$tsevents" "$log"'
+
 # a live log: what is said passes as it comes
 row "an event while the log goes on" 0 "$head${event}seen before the end\n" "" '
     rm -f "$tools/live"; mkfifo "$tools/live"
@@ -125,17 +141,27 @@ row "an event while the log goes on" 0 "$head${event}seen before the end\n" "" '
     cat "$tools/printed"; echo "seen before the end"
     exec 3>&-; wait $!'
 
-# what is installed, when it is ended, ends the proved program too
+# ---- what is installed, by itself
+note() { # STATUS WHAT
+    if [ "$1" -eq 0 ]; then
+        passed=$((passed + 1))
+    else
+        echo "failed: $2"
+        failed=$((failed + 1))
+    fi
+}
+
+# when it is ended, the proved program ends too
 child_ends() {
     local k child= status
     mkfifo "$work/idle"
-    "$installed" < "$work/idle" > "$work/out" 2> "$work/err" &
+    (trap '' TERM; exec "$installed") < "$work/idle" > "$work/out" 2> "$work/err" &
     exec 4> "$work/idle"
     for k in $(seq 100); do
         read -r child < "/proc/$!/task/$!/children" && [ -s "$work/out" ] && break
         sleep 0.05
     done
-    kill -TERM $!
+    kill -KILL $!
     wait $!
     status=$?
     for k in $(seq 100); do
@@ -143,24 +169,63 @@ child_ends() {
         sleep 0.05
     done
     exec 4>&-
-    [ -n "$child" ] && [ "$status" -eq 143 ] && ! kill -0 "$child" 2> /dev/null
+    [ -n "$child" ] && [ "$status" -eq 137 ] && ! kill -0 "$child" 2> /dev/null
 }
-if child_ends 2> /dev/null; then
-    passed=$((passed + 1))
-else
-    echo "ended by a signal: the proved program goes on"
-    failed=$((failed + 1))
-fi
+child_ends 2> /dev/null
+note $? "the installed program is killed, and the proved one goes on"
 
-# what is installed over a program that is not there
-gcc -std=c99 -O2 '-DSONGPIGEON_PROGRAM="/no/such/program"' -o "$work/alone" host/tsevents.c
-"$work/alone" < "$work/log" > "$work/out" 2> "$work/err"
-if [ $? -eq 2 ] && [ ! -s "$work/out" ] && grep -q '^tsevents: cannot run /no/such/program: No such file' "$work/err"; then
-    passed=$((passed + 1))
-else
-    echo "a program that is not there: $(cat "$work/err")"
-    failed=$((failed + 1))
-fi
+# nobody reads what is said: the log is judged all the same, and the exit status tells
+mkfifo "$work/nobody"
+exec 5<> "$work/nobody" 6> "$work/nobody" 5<&-
+FAULTY_READS=11111e LD_PRELOAD=$work/faults.so "$installed" < "$work/log" > "$work/out" 2>&6
+[ $? -eq 2 ] && printf '%b' "${head}line\t2\trefused\t8\n" | cmp -s - "$work/out"
+note $? "a standard error that nobody reads"
+exec 6>&-
+
+# over other programs in the place of the proved one
+gcc -std=c99 -O2 "-DSONGPIGEON_PROGRAM=\"$work/other\"" -o "$work/over" host/tsevents.c
+over() { # NAME STATUS STDERR SCRIPT
+    printf '#!/bin/bash\n%s\n' "$4" > "$work/other"
+    chmod +x "$work/other"
+    "$work/over" > "$work/out" 2> "$work/err"
+    [ $? -eq "$2" ] && printf '%b' "$3" | cmp -s - "$work/err"
+    note $? "over a program that $1: $(cat "$work/err")"
+}
+line="tsevents: line 1 refused with 8: malformed line"
+over "says nothing" 0 "" "exit 0"
+over "says nothing and ends with 3" 2 "" "exit 3"
+over "refuses a line" 1 "$line\n" "echo '$line' >&2"
+over "refuses a line in two pieces" 1 "$line\n" "printf 'tsevents: li' >&2; sleep 0.1; printf '${line#tsevents: li}\n' >&2"
+over "is cut off while it says so" 2 "$line" "printf '$line' >&2"
+over "is cut off at once" 2 "tse" "printf tse >&2"
+over "says an empty line" 2 "\n" "echo >&2"
+over "says less than a refusal" 2 "tsevents: line\n" "echo 'tsevents: line' >&2"
+over "refuses a line and fails" 2 "$line\nfailed\n" "echo '$line' >&2; echo failed >&2"
+over "fails and refuses a line" 2 "failed\n$line\n" "echo failed >&2; echo '$line' >&2"
+over "is killed" 2 "tsevents: ended by a signal: Killed\n" 'kill -KILL $$'
+rm "$work/other"
+"$work/over" > "$work/out" 2> "$work/err"
+[ $? -eq 2 ] && [ ! -s "$work/out" ] && grep -qx "tsevents: cannot run $work/other: No such file or directory" "$work/err"
+note $? "over a program that is not there: $(cat "$work/err")"
+
+# what is said passes as it comes
+printf '#!/bin/bash\necho said >&2\nread -r end\n' > "$work/other"
+chmod +x "$work/other"
+said_at_once() {
+    local k seen=1
+    mkfifo "$work/end"
+    "$work/over" < "$work/end" > "$work/out" 2> "$work/err" &
+    exec 4> "$work/end"
+    for k in $(seq 100); do
+        [ "$(cat "$work/err")" = said ] && seen=0 && break
+        sleep 0.05
+    done
+    exec 4>&-
+    wait $!
+    return $seen
+}
+said_at_once
+note $? "what is said is held back to the end"
 
 echo "$passed passed, $failed failed"
 [ "$failed" -eq 0 ]

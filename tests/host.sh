@@ -44,9 +44,20 @@ for place in tests/host/*/; do
     [ $? -eq "$want" ] && cmp -s "$log" "$place/stdout"
     note $? "$example on $place"
 done
-"$example" 0 < /dev/null > "$log" 2>&1
-[ $? -eq 2 ] && grep -q '^usage: ' "$log"
-note $? "$example with a rate of 0"
+for rate in 0 -1 x $'\xff' "1 2"; do
+    "$example" "$rate" < /dev/null > "$log" 2>&1
+    [ $? -eq 2 ] && grep -q '^host: usage: ' "$log"
+    note $? "$example with a rate of $rate"
+done
+"$example" <&- > "$log" 2>&1
+[ $? -eq 2 ] && ! grep -q time "$log"
+note $? "$example with a closed input"
+"$example" < tests/host/slow/stream >&- 2> "$log"
+[ $? -eq 2 ] && [ -s "$log" ]
+note $? "$example with a closed output"
+"$example" < /dev/null > /dev/null 2> "$log"
+[ $? -eq 0 ] && [ ! -s "$log" ]
+note $? "$example from and to /dev/null"
 "$example" < tests/host/slow/stream > /dev/full 2> "$log"
 [ $? -eq 2 ] && [ -s "$log" ]
 note $? "$example on a full disk"

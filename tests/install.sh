@@ -22,16 +22,18 @@ prefix=$work/prefix
 bash install.sh "$prefix" > "$work/log" 2>&1
 note $? "install.sh: $(tail -n 3 "$work/log")"
 for file in bin/tsevents libexec/songpigeon/tsevents lib/libsongpigeon.a lib/pkgconfig/songpigeon.pc include/songpigeon.h \
-    share/man/man1/tsevents.1; do
+    share/man/man1/tsevents.1 share/doc/songpigeon/EVENTS.md; do
     [ -f "$prefix/$file" ]
     note $? "$file is not there"
 done
-bash install.sh one two > /dev/null 2> "$work/err"
-[ $? -eq 2 ] && grep -q '^usage: ' "$work/err"
-note $? "install.sh with two arguments"
+for wrong in "one two" "--help" "''" "'$work/a b'" "'$work/a\"b'"; do
+    bash -c "bash install.sh $wrong" > "$work/out" 2> "$work/err"
+    [ $? -eq 2 ] && [ ! -s "$work/out" ] && grep -q '^usage: \|^install.sh: ' "$work/err"
+    note $? "install.sh $wrong"
+done
 
 # below DESTDIR, and the files name the prefix
-DESTDIR=$work/staged bash install.sh /opt/songpigeon > "$work/log" 2>&1
+(here=$PWD && cd "$work" && DESTDIR=staged bash "$here/install.sh" /opt/songpigeon > "$work/log" 2>&1)
 note $? "install.sh with DESTDIR"
 grep -qx 'prefix=/opt/songpigeon' "$work/staged/opt/songpigeon/lib/pkgconfig/songpigeon.pc"
 note $? "songpigeon.pc with DESTDIR"
@@ -58,9 +60,11 @@ for place in tests/host/*/; do
     [ $? -eq "$want" ] && cmp -s "$work/out" "$place/stdout"
     note $? "example.c on $place"
 done
-"$work/example" 0 < /dev/null > "$work/out" 2> "$work/err"
-[ $? -eq 2 ] && [ ! -s "$work/out" ] && grep -q '^usage: ' "$work/err"
-note $? "example.c with a rate of 0"
+for rate in 0 -18446744073709551615 x "" 99999999999999999999; do
+    "$work/example" "$rate" < /dev/null > "$work/out" 2> "$work/err"
+    [ $? -eq 2 ] && [ ! -s "$work/out" ] && grep -q '^usage: ' "$work/err"
+    note $? "example.c with a rate of $rate"
+done
 "$work/example" < tests/host/slow/stream > /dev/full 2> "$work/err"
 [ $? -eq 2 ] && grep -q '^writing failed' "$work/err"
 note $? "example.c on a full disk"
@@ -77,7 +81,8 @@ else
 fi
 
 # the library has no memory of its own: nothing that can be written stands in it
-[ -z "$(nm --defined-only "$prefix/lib/libsongpigeon.a" | awk 'NF == 3 && $2 ~ /[bBdDcCsSgG]/')" ]
+nm --defined-only "$prefix/lib/libsongpigeon.a" > "$work/symbols"
+grep -q ' T songpigeon_packet$' "$work/symbols" && ! awk 'NF == 3 { print $2 }' "$work/symbols" | grep -q '[bBdDcCsSgG]'
 note $? "the library holds memory that can be written"
 
 # the program from there
@@ -99,6 +104,13 @@ for place in damaged slow healthy empty; do
     [ "$at" = 38000000 ] || line=${recipe/38e6/$at}
     (cd "$work" && PATH=$prefix/bin:$PATH bash -c "$line") | cmp -s - "tests/host/$place/stdout"
     note $? "README's recipe on tests/host/$place"
+done
+for wrong in no-such-file /; do
+    rm -f "$work/in.ts"
+    [ "$wrong" != / ] || ln -s / "$work/in.ts"
+    (cd "$work" && PATH=$prefix/bin:$PATH bash -c "$recipe") > "$work/out" 2> /dev/null
+    [ $? -eq 1 ] && [ "$(tail -n 1 "$work/out")" = "$(printf 'line\t2\trefused\t8')" ]
+    note $? "README's recipe on a recording that cannot be read"
 done
 
 # the manual page: no warning, and the same recipe

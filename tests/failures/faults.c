@@ -3,7 +3,7 @@
  *
  *   FAULTY_READS, FAULTY_WRITES  a letter for each call: a EAGAIN, i EINTR, e EIO, n ENOSPC, 0 the answer 0, 1 at most one byte
  *                                moved, + as it is. Behind the last letter every call is as it is
- *   FAULTY_CLOSE                 closing standard output fails with EIO
+ *   FAULTY_CLOSE                 a letter for the closing of standard output
  *   COUNTED_WAITS                the file that is told, at the end, how many waits there were and how many asked for no time
  */
 #define _GNU_SOURCE
@@ -68,11 +68,9 @@ ssize_t write(int file, const void *bytes, size_t length) {
 
 int close(int file) {
     int (*real)(int) = (int (*)(int))dlsym(RTLD_NEXT, "close");
-    if (file == STDOUT_FILENO && getenv("FAULTY_CLOSE") != NULL) {
-        errno = EIO;
-        return -1;
-    }
-    return real(file);
+    const char *letter = getenv("FAULTY_CLOSE");
+    ssize_t answer;
+    return file == STDOUT_FILENO && letter != NULL && answered(*letter, &answer) ? (int)answer : real(file);
 }
 
 int nanosleep(const struct timespec *asked, struct timespec *left) {

@@ -53,12 +53,23 @@ pub fn usage() {
     steady::write_whole(STDERR_FILENO, b"usage: tsevents [FILE]\n");
 }
 
+// Says a message with the reason that errno holds, unless errno has changed when the message is written.
+fn say_why(message: &[u8]) {
+    let why = os::errno();
+    steady::write_whole(STDERR_FILENO, message);
+    if (why != 0) & (os::errno() == why) {
+        os::fail(b"");
+        return;
+    }
+    steady::write_whole(STDERR_FILENO, b"\n");
+}
+
 // What failed, and what with; errno says why.
 pub fn failed(what: &[u8], name: &[u8]) {
     let mut text = io::large_buffer();
     let a = join(&mut text, 0, what);
     let b = join(&mut text, a, name);
-    os::fail(&text[..b]);
+    say_why(&text[..b]);
 }
 
 // What failed behind a line of the log; errno says why.
@@ -67,7 +78,7 @@ pub fn failed_behind(what: &[u8], line: u64) {
     let a = join(&mut text, 0, what);
     let b = join(&mut text, a, b" behind line ");
     let c = join_number(&mut text, b, line);
-    os::fail(&text[..c]);
+    say_why(&text[..c]);
 }
 
 // That a line of the log is refused.

@@ -31,7 +31,7 @@ fn damaged() -> Vec<u8> {
     ])
 }
 
-/// A PAT and a PMT twice, then PMTs alone, one packet in a tenth of a second.
+/// A PAT with two programmes and the PMT of each, then the first one's PMT alone, one packet in a tenth of a second.
 fn slow() -> Vec<u8> {
     let mut packets = vec![
         Packet::sections(PAT_PID, 0, &[&pat(&[(1, 0x0100), (2, 0x0101)])]),
@@ -42,7 +42,7 @@ fn slow() -> Vec<u8> {
     bytes(&packets)
 }
 
-/// A second and a half in which PAT and PMT come every 0.2 s, and at whose end nothing is late.
+/// 1.4 seconds in which PAT and PMT come every 0.2 s, and at whose end nothing is late.
 fn healthy() -> Vec<u8> {
     let pair = |k: u8| [Packet::sections(PAT_PID, k, &[&pat(&[(1, 0x0100)])]), Packet::sections(0x0100, k, &[&pmt(1)])];
     let packets: Vec<Packet> = (0..7).flat_map(pair).collect();

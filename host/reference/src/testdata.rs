@@ -258,8 +258,8 @@ pub fn write(section: &Section, place: &mut [u8]) -> Result<usize, u8> {
     lay(&bytes, place)
 }
 
-/// The fields of a section as a host hands them in, a byte each in the order of Table 1. The first,
-/// section_syntax_indicator, has one bit: a greater number is too wide for it, as any other may be.
+/// The fields of a section as a host hands them in, a byte each: section_syntax_indicator first, then the others in the
+/// order of Table 1. The first has one bit: a greater number is too wide for it, as any other may be.
 pub fn write_bytes(fields: &[u8; 12], descriptors: &[u8], data: &[u8], place: &mut [u8]) -> Result<usize, u8> {
     let [indicator, table_id, priority, reserved, rest @ ..] = *fields;
     if indicator > 1 {

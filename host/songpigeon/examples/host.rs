@@ -7,9 +7,12 @@
 //! its end, 1 where a call was refused, 2 where something failed.
 
 use songpigeon::{Event, Probe, Refusal};
-use std::env;
+use std::ffi::OsString;
+use std::fmt::Display;
 use std::io::{self, Read, Write};
+use std::path::Path;
 use std::process::ExitCode;
+use std::{env, fs};
 
 const PACKET: usize = 188;
 /// 188 bytes at one bit a second, in ticks of 27 MHz.
@@ -84,25 +87,43 @@ fn run(rate: u64) -> io::Result<Result<(), Refusal>> {
     Ok(judged)
 }
 
+/// Whether a standard stream was closed. Rust then puts /dev/null in its place, open for reading and writing: what is read
+/// there is an empty recording, and what is written is lost, so that either would look like a stream without events.
+fn was_closed(stream: u32) -> bool {
+    let file = fs::read_link(format!("/proc/self/fd/{}", stream));
+    let flags = fs::read_to_string(format!("/proc/self/fdinfo/{}", stream)).unwrap_or_default();
+    let both_ways = flags.lines().any(|line| line.starts_with("flags:") && line.ends_with('2'));
+    both_ways && file.map_or(false, |file| file == Path::new("/dev/null"))
+}
+
+/// Says what went wrong; where nobody hears it, the exit status still tells.
+fn say(what: &dyn Display) {
+    let _ = writeln!(io::stderr(), "host: {}", what);
+}
+
 fn main() -> ExitCode {
-    let words: Vec<String> = env::args().skip(1).collect();
+    let words: Vec<OsString> = env::args_os().skip(1).collect();
     let rate = match &words[..] {
         [] => 38_000_000,
-        [rate] => rate.parse().unwrap_or(0),
+        [rate] => rate.to_str().and_then(|rate| rate.parse().ok()).unwrap_or(0),
         _ => 0,
     };
     if !(1..=1_000_000_000_000).contains(&rate) {
-        eprintln!("usage: host [BITS_A_SECOND] < recording.ts");
+        say(&"usage: host [BITS_A_SECOND] < recording.ts");
+        return ExitCode::from(2);
+    }
+    if was_closed(0) || was_closed(1) {
+        say(&"standard input or output is closed");
         return ExitCode::from(2);
     }
     match run(rate) {
         Ok(Ok(())) => ExitCode::SUCCESS,
         Ok(Err(refusal)) => {
-            eprintln!("host: {}", refusal);
+            say(&refusal);
             ExitCode::from(1)
         }
-        Err(e) => {
-            eprintln!("host: {}", e);
+        Err(error) => {
+            say(&error);
             ExitCode::from(2)
         }
     }
