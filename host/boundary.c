@@ -273,6 +273,16 @@ static void test_data(void) {
     fields[SONGPIGEON_FIELD_SYNTAX_INDICATOR] = 0;
     CHECK(is_laid(songpigeon_testdata_write(fields, row, 0, (const uint8_t *)"xyz", 3, section, sizeof section),
                   SONGPIGEON_ACCEPTED, 6));
+    CHECK(is_laid(songpigeon_testdata_write(fields, row, 4, long_data, 0, section, sizeof section),
+                  SONGPIGEON_REFUSED_UNFIT, 0));
+    /* the longest section and the longest descriptor */
+    static uint8_t longest[SONGPIGEON_SECTION];
+    CHECK(is_laid(songpigeon_testdata_write(fields, row, 0, long_data, sizeof long_data - 3, longest, sizeof longest),
+                  SONGPIGEON_ACCEPTED, SONGPIGEON_SECTION));
+    CHECK(is_laid(songpigeon_testdata_write(fields, row, 0, long_data, sizeof long_data - 2, longest, sizeof longest),
+                  SONGPIGEON_REFUSED_UNFIT, 0));
+    CHECK(is_laid(songpigeon_testdata_other(0x41, long_data, 255, longest, SONGPIGEON_DESCRIPTOR), SONGPIGEON_ACCEPTED,
+                  SONGPIGEON_DESCRIPTOR));
 }
 
 /* ---- The stack: calls on one that is painted first. */

@@ -1,5 +1,5 @@
 /* Songpigeon for hosts in C and C++: what a probe card judges of an MPEG-2 transport stream, and the test data sections of
- * DVB A046. Link libsongpigeon.a (`pkg-config --libs songpigeon`).
+ * DVB A046. C99 or C++. Link libsongpigeon.a, for x86-64 Linux (`pkg-config --libs songpigeon`).
  *
  * Two ways to call it. `songpigeon_card` holds all memory that a card needs, and the functions over it cannot be given an
  * array that is too short. The functions below it take each array apart, for hosts that keep the memory elsewhere.
@@ -40,13 +40,15 @@ enum {
     SONGPIGEON_PACKET = 188,
     SONGPIGEON_TIMES = 22, /* latest time; gap starts of PAT, NIT, SDT, EIT, TDT; of the list's sixteen places */
     SONGPIGEON_WORDS = 56, /* 16 programme numbers, 16 PIDs, 21 half-built lengths, sync lost, run, list's length */
-    SONGPIGEON_COUNTERS = 8192, /* one byte for each PID */
-    SONGPIGEON_MEMORY = 24576,  /* half-built sections */
-    SONGPIGEON_EVENTS = 96,     /* the least room for events; a call has at most 87 */
-    SONGPIGEON_FIELDS = 12,     /* the fields of a test data section, one byte each */
-    SONGPIGEON_PLACES = 4,      /* descriptors at, length; data at, length */
-    SONGPIGEON_VALUES = 5,      /* the numbers of a descriptor of fixed size, at most */
-    SONGPIGEON_STACK = 65536    /* what a call needs of stack, at most */
+    SONGPIGEON_COUNTERS = 8192,  /* one byte for each PID */
+    SONGPIGEON_MEMORY = 24576,   /* half-built sections */
+    SONGPIGEON_EVENTS = 96,      /* the least room for events; a call has at most 87 */
+    SONGPIGEON_FIELDS = 12,      /* the fields of a test data section, one byte each */
+    SONGPIGEON_PLACES = 4,       /* descriptors at, length; data at, length */
+    SONGPIGEON_VALUES = 5,       /* the numbers of a descriptor of fixed size, at most */
+    SONGPIGEON_SECTION = 4096,   /* a test data section, at most */
+    SONGPIGEON_DESCRIPTOR = 257, /* a descriptor, at most */
+    SONGPIGEON_STACK = 65536     /* what a call needs of stack, at most */
 };
 
 /* Why a call is refused; 0: it is accepted. Where several hold, the lowest is given; test data sections have an order of
@@ -115,20 +117,22 @@ typedef struct {
     songpigeon_event events[SONGPIGEON_EVENTS]; /* those of the last call: the first n */
 } songpigeon_card;
 
-/* ---- The calls over each array. */
+/* ---- The calls over each array. Those without a length beside them have the length that stands in their brackets. */
 
-/* Opens at a time. Refusals 2 and 4. */
-songpigeon_reply songpigeon_open(uint64_t *times, uint16_t *words, uint64_t time, uint8_t *counters,
-                                 size_t counters_length);
+/* Opens at a time: writes the state of an opening, and sets the counter table to 0. Refusals 2 and 4. */
+songpigeon_reply songpigeon_open(uint64_t times[SONGPIGEON_TIMES], uint16_t words[SONGPIGEON_WORDS], uint64_t time,
+                                 uint8_t *counters, size_t counters_length);
 
 /* Judges a packet. Refusals 1 to 6. */
-songpigeon_reply songpigeon_packet(uint64_t *times, uint16_t *words, uint64_t time, const uint8_t *packet,
-                                   size_t packet_length, uint8_t *counters, size_t counters_length, uint8_t *memory,
-                                   songpigeon_event *events, size_t events_length);
+songpigeon_reply songpigeon_packet(uint64_t times[SONGPIGEON_TIMES], uint16_t words[SONGPIGEON_WORDS], uint64_t time,
+                                   const uint8_t *packet, size_t packet_length, uint8_t *counters,
+                                   size_t counters_length, uint8_t memory[SONGPIGEON_MEMORY], songpigeon_event *events,
+                                   size_t events_length);
 
 /* Lets time pass without a packet. Refusals 3 to 6. */
-songpigeon_reply songpigeon_clock(uint64_t *times, uint16_t *words, uint64_t time, const uint8_t *memory,
-                                  songpigeon_event *events, size_t events_length);
+songpigeon_reply songpigeon_clock(uint64_t times[SONGPIGEON_TIMES], uint16_t words[SONGPIGEON_WORDS], uint64_t time,
+                                  const uint8_t memory[SONGPIGEON_MEMORY], songpigeon_event *events,
+                                  size_t events_length);
 
 /* ---- The calls over a card. */
 
@@ -214,14 +218,17 @@ typedef struct {
     size_t length;
 } songpigeon_laid;
 
-/* Reads a section: SONGPIGEON_FIELDS bytes and SONGPIGEON_PLACES numbers. Refusals 11 to 14, given back as the number; 0 where
- * it was read. */
-uint8_t songpigeon_testdata_read(const uint8_t *section, size_t section_length, uint8_t *fields, uint64_t *places);
+/* Reads a section: its fields, and where its descriptors and data stand. Refusals 11 to 14, given back as the number; 0 where it
+ * was read. */
+uint8_t songpigeon_testdata_read(const uint8_t *section, size_t section_length, uint8_t fields[SONGPIGEON_FIELDS],
+                                 uint64_t places[SONGPIGEON_PLACES]);
 
-/* Writes a section of its fields, the bytes of its descriptors and its data; lengths and CRC_32 are worked out. Refusals 14,
- * 13, 15 in this order. */
-songpigeon_laid songpigeon_testdata_write(const uint8_t *fields, const uint8_t *descriptors, size_t descriptors_length,
-                                          const uint8_t *data, size_t data_length, uint8_t *place, size_t place_length);
+/* Writes a section of its fields, the bytes of its descriptors and its data; lengths and CRC_32 are worked out. A section
+ * whose indicator is 0 has no descriptors: any are unfit, 13. A place of SONGPIGEON_SECTION bytes is never too short.
+ * Refusals 14, 13, 15 in this order. */
+songpigeon_laid songpigeon_testdata_write(const uint8_t fields[SONGPIGEON_FIELDS], const uint8_t *descriptors,
+                                          size_t descriptors_length, const uint8_t *data, size_t data_length,
+                                          uint8_t *place, size_t place_length);
 
 /* ---- Descriptors of a section, one after the other. */
 
@@ -235,7 +242,7 @@ enum {
 
 enum {
     SONGPIGEON_NO_MORE = 0,  /* the end; or a refusal */
-    SONGPIGEON_OF_FIXED = 1, /* a descriptor of fixed size: its numbers are in `values` */
+    SONGPIGEON_OF_FIXED = 1, /* a descriptor of fixed size: its numbers are in `values`; `at` and `length` are 0 */
     SONGPIGEON_OF_OTHER = 2  /* another one: its body stands at `at` */
 };
 
@@ -250,12 +257,13 @@ typedef struct {
 } songpigeon_found;
 
 /* What stands at a place among descriptors that end at another: begin at places[0], end at places[0] + places[1], and go on
- * from `next`. SONGPIGEON_VALUES numbers, written for a descriptor of fixed size alone, in the order above and 0 behind them.
- * Refusals 13 and 14. */
+ * from `next`. The values are written for a descriptor of fixed size alone, in the order above and 0 behind them. Refusals 13
+ * and 14. */
 songpigeon_found songpigeon_testdata_descriptor(const uint8_t *bytes, size_t bytes_length, size_t at, size_t end,
-                                                uint32_t *values);
+                                                uint32_t values[SONGPIGEON_VALUES]);
 
-/* Writers of one descriptor, for the bytes that songpigeon_testdata_write is lent. Refusals 13, then 15. */
+/* Writers of one descriptor, for the bytes that songpigeon_testdata_write is lent. A place of SONGPIGEON_DESCRIPTOR bytes is
+ * never too short. Refusals 13, then 15. */
 songpigeon_laid songpigeon_testdata_elementary_id(uint8_t id_type, uint16_t pid, uint8_t *place, size_t place_length);
 songpigeon_laid songpigeon_testdata_gps(uint8_t north_south, uint32_t latitude, uint8_t east_west, uint32_t longitude,
                                         uint16_t elevation, uint8_t *place, size_t place_length);

@@ -134,7 +134,9 @@ int main(int count, char **arguments) {
     if (child == 0) {
         run(parent, ends[1], arguments);
     }
-    signal(SIGPIPE, SIG_IGN); /* here alone: nobody may hear what is said, and the program goes on */
+    /* here alone: nobody may hear what is said, or a limit may keep it out of a file, and the program goes on */
+    signal(SIGPIPE, SIG_IGN);
+    signal(SIGXFSZ, SIG_IGN);
     if (child < 0) {
         return cannot_run();
     }

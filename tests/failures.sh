@@ -99,7 +99,10 @@ row "a disk that says so only when it is closed" 2 "$head$event" "tsevents: writ
 row "a signal that breaks the closing" 0 "$head$event" "" 'FAULTY_CLOSE=i LD_PRELOAD=$tools/faults.so "$tsevents" < "$log"'
 row "an output that nobody reads" 2 "" "tsevents: ended by a signal: Broken pipe\n" '
     # the proved program is ended by the signal itself, and so is not silent either
-    { sleep 0.3; "$tsevents" "$log" || { s=$?; [ $s -ne 141 ] || { echo "tsevents: ended by a signal: Broken pipe" >&2; s=0; }; exit $s; }; } | :
+    { sleep 0.3; env --default-signal=PIPE "$tsevents" "$log" || { s=$?; [ $s -ne 141 ] || { echo "tsevents: ended by a signal: Broken pipe" >&2; s=0; }; exit $s; }; } | :
+    exit ${PIPESTATUS[0]}'
+row "an output that nobody reads, and the signal is ignored" 2 "" "tsevents: writing failed behind line 0: Broken pipe\n" '
+    { sleep 0.3; env --ignore-signal=PIPE "$tsevents" "$log"; } | :
     exit ${PIPESTATUS[0]}'
 
 # nothing failed: it is tried again, and what is not ready is waited for
@@ -181,6 +184,11 @@ FAULTY_READS=11111e LD_PRELOAD=$work/faults.so "$installed" < "$work/log" > "$wo
 [ $? -eq 2 ] && printf '%b' "${head}line\t2\trefused\t8\n" | cmp -s - "$work/out"
 note $? "a standard error that nobody reads"
 exec 6>&-
+
+# a limit keeps what is printed, and what is said, out of their files: the exit status tells
+(ulimit -f 0 && exec "$installed" "$work/log" > "$work/out" 2> "$work/err")
+[ $? -eq 2 ] && [ ! -s "$work/out" ] && [ ! -s "$work/err" ]
+note $? "files that may not grow"
 
 # over other programs in the place of the proved one
 gcc -std=c99 -O2 "-DSONGPIGEON_PROGRAM=\"$work/other\"" -o "$work/over" host/tsevents.c

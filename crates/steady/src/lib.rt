@@ -1,5 +1,5 @@
 // Reads and writes that go on: after a signal at once, and where a descriptor has nothing to give or no room to
-// take (EAGAIN) after a pause, so that waiting costs no time of the processor. What is read and written no
+// take (EAGAIN) after a pause, so that waiting costs little time of the processor. What is read and written no
 // contract can say.
 use libc::types::timespec;
 ghost use mathlib.Core.Path.{_≡_};

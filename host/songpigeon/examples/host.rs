@@ -6,7 +6,7 @@
 //! It ends at the last packet: a recording does not say what came behind it. It ends with 0 where the stream was read to
 //! its end, 1 where a call was refused, 2 where something failed.
 
-use songpigeon::{Event, Probe, Refusal};
+use songpigeon::{lent, Event, Probe, Refusal};
 use std::ffi::OsString;
 use std::fmt::Display;
 use std::io::{self, Read, Write};
@@ -110,6 +110,10 @@ fn main() -> ExitCode {
     };
     if !(1..=1_000_000_000_000).contains(&rate) {
         say(&"usage: host [BITS_A_SECOND] < recording.ts");
+        return ExitCode::from(2);
+    }
+    if lent::version() / 10_000 != lent::VERSION / 10_000 {
+        say(&"the library is of another version than the crate");
         return ExitCode::from(2);
     }
     if was_closed(0) || was_closed(1) {

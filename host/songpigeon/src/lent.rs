@@ -22,6 +22,14 @@ pub const FIELDS: usize = 12;
 pub const PLACES: usize = 4;
 /// the numbers of a descriptor of fixed size, at most
 pub const VALUES: usize = 5;
+/// a test data section, at most
+pub const SECTION: usize = 4_096;
+/// a descriptor, at most
+pub const DESCRIPTOR: usize = 257;
+
+/// The version that this crate is written for, `major * 10000 + minor * 100 + patch`. A library with another major number
+/// has other arrays or other calls: see [`version`].
+pub const VERSION: u32 = 10_000;
 
 pub type Times = [u64; TIMES];
 pub type Words = [u16; WORDS];

@@ -14,16 +14,27 @@ pub const PROGRAM: u8 = 0x47;
 #[derive(Clone, Copy, Debug, Default, PartialEq, Eq)]
 pub struct Fields {
     pub syntax_indicator: bool,
+    /// 6 bits
     pub table_id: u8,
+    /// 2 bits
     pub priority: u8,
+    /// 3 bits, before the section's length
     pub reserved: u8,
+    /// 8 bits
     pub user_defined: u8,
+    /// 8 bits
     pub extension: u8,
+    /// 2 bits, before version_number
     pub reserved_version: u8,
+    /// 5 bits
     pub version: u8,
+    /// 1 bit
     pub current_next: u8,
+    /// 8 bits, section_number
     pub number: u8,
+    /// 8 bits, last_section_number
     pub last: u8,
+    /// 4 bits, before descriptors_length
     pub reserved_loop: u8,
 }
 

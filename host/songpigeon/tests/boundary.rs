@@ -279,6 +279,8 @@ fn the_header_has_the_same_names() {
         ("FIELDS", lent::FIELDS as u32),
         ("PLACES", lent::PLACES as u32),
         ("VALUES", lent::VALUES as u32),
+        ("SECTION", lent::SECTION as u32),
+        ("DESCRIPTOR", lent::DESCRIPTOR as u32),
     ];
     for (name, number) in names {
         assert_eq!(in_header(&header, &format!("SONGPIGEON_{}", name)), Some(number), "{}", name);
@@ -287,5 +289,6 @@ fn the_header_has_the_same_names() {
     let part = |name: &str| in_header(&header, &format!("SONGPIGEON_VERSION_{}", name)).unwrap();
     let version = [part("MAJOR"), part("MINOR"), part("PATCH")];
     assert_eq!(lent::version(), version[0] * 10_000 + version[1] * 100 + version[2]);
+    assert_eq!(lent::version(), lent::VERSION);
     assert_eq!(version.map(|n| n.to_string()).join("."), env!("CARGO_PKG_VERSION"));
 }
