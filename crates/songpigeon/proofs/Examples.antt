@@ -1,19 +1,70 @@
--- Worked examples of the boundary: the version, a number too wide for the indicator, and descriptors as a host is told of them. Assumes nothing.
+-- Worked examples of the boundary: the version, the twelve bytes of a section's fields, a number too wide for the indicator, and descriptors as a host
+-- is told of them. Assumes nothing.
 use mathlib.Core.Path.{_≡_, refl}
 use mathlib.Core.List.{List, [], _∷_}
 use Prim.Native.Nat.{ℕ}
 use Rattle.lists.specs.Places.{part}
+use Rattle.testdata.specs.declared.Part.{Part}
+use Rattle.testdata.specs.declared.Head.{Head}
+use Rattle.testdata.specs.declared.Syntax.{Syntax}
+use Rattle.testdata.specs.declared.Fields.the-variants.{Plain, Generic}
+use Rattle.testdata.specs.declared.Reading.{Reading}
+use Rattle.testdata.specs.declared.Reading.the-variants.{Section}
+use Rattle.testdata.specs.declared.Reading.the-variants as reading
 use Rattle.testdata.specs.declared.Written.{Written}
 use Rattle.testdata.specs.declared.Written.the-variants.{Length, Refused}
 use Rattle.testdata.specs.Descriptors.{rightSize, row, descriptorOf, stepOf}
 use Rattle.testdata.specs.Writer.{writeRefusal, writeAnswer}
 use Rattle.songpigeon.specs.declared.Found.{Found}
+use Rattle.songpigeon.specs.declared.Laid.{Laid}
 use Rattle.songpigeon.specs.Version.{version}
-use Rattle.songpigeon.specs.Fields.{fieldsIn, bytesAnswer, bytesMemory}
+use Rattle.songpigeon.specs.Fields.{fieldBytes, fieldsIn, fieldsAfter, placesAfter, bytesAnswer, bytesMemory, laidOf}
 use Rattle.songpigeon.specs.Descriptors.{cursorAt, foundOf, valuesAfter}
 
 pub the-version : version ≡ 10000
 the-version = refl
+
+-- THE TWELVE BYTES in the order of Table 1, each field under its place, and the arrays that are lent to a reading
+abbrev head : Head
+head = record { «table_id» = 1; priority = 2; reserved = 3 }
+
+abbrev syntax : Syntax
+syntax =
+    record { «user_defined» = 4; extension = 5; reserved = 6; version = 7; «current_next» = 8; number = 9; last = 10; «reserved_loop» = 11 }
+
+abbrev read : Reading
+read = Section (Plain head) (record { at = 10; len = 4 }) (record { at = 14; len = 3 })
+
+abbrev laid : ℕ → ℕ → Laid
+laid refusal length = record { refusal = refusal; length = length }
+
+pub record Bytes : Type 0 where
+  pub generic-bytes : fieldBytes (Generic head syntax) ≡ 1 ∷ 1 ∷ 2 ∷ 3 ∷ 4 ∷ 5 ∷ 6 ∷ 7 ∷ 8 ∷ 9 ∷ 10 ∷ 11 ∷ []
+  pub plain-bytes : fieldBytes (Plain head) ≡ 0 ∷ 1 ∷ 2 ∷ 3 ∷ 0 ∷ 0 ∷ 0 ∷ 0 ∷ 0 ∷ 0 ∷ 0 ∷ 0 ∷ []
+  pub generic-fields : fieldsIn (1 ∷ 1 ∷ 2 ∷ 3 ∷ 4 ∷ 5 ∷ 6 ∷ 7 ∷ 8 ∷ 9 ∷ 10 ∷ 11 ∷ []) ≡ Generic head syntax
+  pub plain-fields : fieldsIn (0 ∷ 1 ∷ 2 ∷ 3 ∷ 4 ∷ 5 ∷ 6 ∷ 7 ∷ 8 ∷ 9 ∷ 10 ∷ 11 ∷ []) ≡ Plain head
+  pub read-fields : fieldsAfter read [] ≡ 0 ∷ 1 ∷ 2 ∷ 3 ∷ 0 ∷ 0 ∷ 0 ∷ 0 ∷ 0 ∷ 0 ∷ 0 ∷ 0 ∷ []
+  pub read-places : placesAfter read [] ≡ 10 ∷ 4 ∷ 14 ∷ 3 ∷ []
+  pub refused-fields : fieldsAfter (reading.Refused 12) (7 ∷ 8 ∷ []) ≡ 7 ∷ 8 ∷ []
+  pub refused-places : placesAfter (reading.Refused 12) (7 ∷ 8 ∷ []) ≡ 7 ∷ 8 ∷ []
+  pub written : laidOf (Length 5) ≡ laid 0 5
+  pub not-written : laidOf (Refused 15) ≡ laid 15 0
+
+pub bytes-told : Bytes
+unfolding fieldsIn
+bytes-told =
+    record {
+      generic-bytes = refl;
+      plain-bytes = refl;
+      generic-fields = refl;
+      plain-fields = refl;
+      read-fields = refl;
+      read-places = refl;
+      refused-fields = refl;
+      refused-places = refl;
+      written = refl;
+      not-written = refl;
+    }
 
 -- THE INDICATOR of twelve bytes, for a section without data, and the descriptors lent with it
 abbrev answered : ℕ → List ℕ → ℕ → Written
