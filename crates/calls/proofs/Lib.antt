@@ -1,2 +1,5 @@
 pub mod Examples
 pub mod Accepted
+pub mod Moves
+pub mod Known
+pub mod Own

@@ -35,7 +35,7 @@ use Rattle.demands.proofs.Agreement.{stamped, call-late}
 use Rattle.demands.proofs.OthersLists.{Alikes, none, next}
 use Rattle.demands.proofs.OthersPids.{Shaped, IsFixed}
 use Rattle.demands.proofs.OthersAlike.{alike-itself}
-use Rattle.demands.proofs.OthersUnlisted.{Known}
+use Rattle.calls.proofs.Known.{KnownBytes}
 use Rattle.demands.proofs.OthersBeside.{replacedCall, RightIn, followed, followed-fixed, followed-listed, Beside, accepted-beside, after-beside}
 
 -- AN OPENING is beside itself
@@ -61,7 +61,7 @@ opened-shaped t m early size =
     go k (below l) = rw (getD-replicate 5 k t 0 l) early
     go k (from l) = rw (List·getD-eq-default (replicate 5 t) 0 {n = k} (omega (arith, length-replicate 5 t))) (omega arith)
 
-opened-known : Known (replicate tableSize 0)
+opened-known : KnownBytes (replicate tableSize 0)
 opened-known q = ap knownByte (go (order q tableSize))
   where
     go : Order q tableSize → _≡_ {A = ℕ} (getD (replicate tableSize 0) q 0) 0

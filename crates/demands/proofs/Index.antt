@@ -1,29 +1,28 @@
 -- The principle of the request: the PAT is an index and the PMTs are its pages. A page counts for a programme only where the index says that
 -- it lies, under the number that the index gives. Assumes nothing.
 use mathlib.Core.Path.{_≡_, refl, ap, _∙_}
-use mathlib.Core.Bool.{Bool, true, false, cond, _||_, true≢false}
+use mathlib.Core.Bool.{Bool, true, false, cond, true≢false}
 use mathlib.Core.List.{List, [], _∷_, map}
-use Prim.Native.Nat.{ℕ, zero, suc, _≤_}
+use Prim.Native.Nat.{ℕ, zero, suc, _≤_, _<_}
 use native.Mathlib.Omega.{arith}
 use lib.Dec.{eqb}
-use lib.ListN.{set, take}
+use lib.ListN.{take}
 use borrow.Author.Tests.{leb-true, ne-eqb}
 use Rattle.lists.specs.Places.{front}
-use Rattle.lists.proofs.Tests.{cond-either}
 use Rattle.watches.specs.declared.Entry.{Entry}
-use Rattle.header.specs.Header.{rightSync, errorBit, pidOf, scrambledBits, controlOf}
+use Rattle.header.specs.Header.{rightSync, pidOf}
 use Rattle.sections.specs.declared.Outcome.the-variants.{Good}
-use Rattle.sections.specs.Rooms.{noRoom, patRoom}
+use Rattle.sections.specs.Rooms.{roomCount, noRoom, patRoom}
 use Rattle.sections.specs.Building.{Finished}
 use Rattle.sections.specs.Outcomes.{isPmtRoom, outcomeOf}
-use Rattle.programmes.specs.Listing.{nullPid, isPair}
+use Rattle.programmes.specs.Listing.{isPair}
+use Rattle.programmes.specs.Places.{isListed}
 use Rattle.calls.specs.declared.Core.{Core}
-use Rattle.calls.specs.Cores.{listed, Held, roomFor, droppedRoom}
-use Rattle.calls.specs.Sync.{syncedOf}
-use Rattle.calls.specs.Steps.{Step, touched, arrivedProgramme, bytesOf, absorbedBy, absorbed, payloadTaken, counted, step1, step2, step4, step5}
-use Rattle.demands.specs.Listening.{pairOf, paired, syncOf}
+use Rattle.calls.specs.Cores.{listed, Held, roomFor}
+use Rattle.calls.specs.Steps.{touched, arrivedProgramme, bytesOf, absorbedBy, absorbed, step1}
+use Rattle.calls.proofs.Moves.{From, Moves, packet-moves, sync-moves}
+use Rattle.demands.specs.Listening.{pairOf, paired}
 use Rattle.demands.specs.Pages.{Nowhere, Unmoved}
-use Rattle.demands.proofs.Follows.{listenerOf, Heeds, heeds-sync}
 
 -- A PAGE that the index does not give
 untouched : (n q t : ℕ) (k : ℕ) (es : List Entry) → paired n q (map pairOf (take k es)) ≡ false → front (touched n q t) k es ≡ es
@@ -61,48 +60,29 @@ nowhere-room : (q : ℕ) (c : Core) → Nowhere q c → roomFor c q ≡ noRoom
 unfolding roomFor
 nowhere-room q c e = rw (e .0, e .1)
 
-unmoved : (h : Held) → Unmoved (h .core) h
-unmoved h = record { since = refl; list = refl }
+module _ (t : ℕ) (p : List ℕ) (h : Held) (e : Nowhere (pidOf p) (h .core)) where
+  abbrev Still : Held → List ℕ → Type 0
+  Still g cs = Unmoved (h .core) g
 
-unmoved-5 : (t : ℕ) (p : List ℕ) (take : Bool) (counters : List ℕ) (h : Held) → Nowhere (pidOf p) (h .core)
-    → Unmoved (h .core) (step5 t p take counters h .held)
-unmoved-5 t p take counters h e =
-    cond-either (λ (s : Step). Unmoved (h .core) (s .held)) (scrambledBits p) _ _ (record { since = refl; list = refl })
-    (cond-either (λ (s : Step). Unmoved (h .core) (s .held)) take _ _ payload (unmoved h))
-  where
-    payload : Unmoved (h .core) (payloadTaken t (roomFor (h .core) (pidOf p)) p h .held)
-    payload = rw (nowhere-room (pidOf p) (h .core) e) (unmoved h)
+  -- so no payload of the PID is built
+  unbuilt : (g : Held) → Unmoved (h .core) g → roomFor (g .core) (pidOf p) < roomCount → ⊥
+  unbuilt g u inside = omega (arith, nowhere-room (pidOf p) (g .core) (e .0, ap (isListed (pidOf p)) (u .list) ∙ e .1))
 
-unmoved-4 : (t : ℕ) (p counters : List ℕ) (h : Held) → Nowhere (pidOf p) (h .core) → Unmoved (h .core) (step4 t p counters h .held)
-unmoved-4 t p counters h e = go (counted p counters .keep)
-  where
-    go : (keep : Bool)
-        → Unmoved (h .core)
-        (step5 t p (counted p counters .take) (set counters (pidOf p) (counted p counters .byte))
-        (cond keep h (droppedRoom (roomFor (h .core) (pidOf p)) h)) .held)
-    go true = unmoved-5 t p (counted p counters .take) (set counters (pidOf p) (counted p counters .byte)) h e
-    go false =
-        let u = unmoved-5 t p (counted p counters .take) (set counters (pidOf p) (counted p counters .byte)) (droppedRoom (roomFor (h .core) (pidOf p)) h) e in
-        record { since = u .since; list = u .list }
+  none-built : (g : Held) (r : ℕ) (f : Finished) → From p g r f → Unmoved (h .core) g → ⊥
+  none-built g r f from u = unbuilt g u (omega (arith, from .room, from .inside))
 
-unmoved-2 : (t : ℕ) (p counters : List ℕ) (h : Held) → Nowhere (pidOf p) (h .core) → Unmoved (h .core) (step2 t p counters h .held)
-unmoved-2 t p counters h e =
-    cond-either (λ (s : Step). Unmoved (h .core) (s .held)) (errorBit p) _ _ (unmoved h)
-    (cond-either (λ (s : Step). Unmoved (h .core) (s .held)) (eqb (pidOf p) nullPid || eqb (controlOf p) 0) _ _ (unmoved h) (unmoved-4 t p counters h e))
+  still-moves : Moves t p Still
+  still-moves =
+      record {
+        synced = λ g cs u. sync-moves (λ (c : Core). Unmoved (h .core) (record { core = c; memory = g .memory })) (g .core)
+            (λ lost run sound. record { since = u .since; list = u .list }) (record { since = u .since; list = u .list }) (rightSync p);
+        byte = λ g cs u. u;
+        dropped = λ g cs u. record { since = u .since; list = u .list };
+        built = λ g cs inside u. absurd (unbuilt g u inside);
+        table = λ o g cs r f from v u. absurd (none-built o r f from v);
+        page = λ o g cs r f from v u n. absurd (none-built o r f from v);
+        list = λ o g cs f from v u. absurd (none-built o patRoom f from v);
+      }
 
 pub index-pid : (t : ℕ) (p counters : List ℕ) (h : Held) → Nowhere (pidOf p) (h .core) → Unmoved (h .core) (step1 t p counters h .held)
-unfolding step1
-index-pid t p counters h e =
-    record { since = moved .since ∙ y .since; list = moved .list ∙ y .list }
-  where
-    y : Heeds h counters (syncedOf (rightSync p) (h .core)) (syncedOf (rightSync p) (syncOf (listenerOf h counters)))
-    y = heeds-sync (rightSync p) h counters
-
-    g : Held
-    g = record { core = syncedOf (rightSync p) (h .core) .core; memory = h .memory }
-
-    nowhere : Nowhere (pidOf p) (g .core)
-    nowhere = (e .0, rw (y .list) (e .1))
-
-    moved : Unmoved (g .core) (cond (syncedOf (rightSync p) (h .core) .further) (step2 t p counters g) (record { held = g; counters = counters; events = [] }) .held)
-    moved = cond-either (λ (s : Step). Unmoved (g .core) (s .held)) (syncedOf (rightSync p) (h .core) .further) _ _ (unmoved-2 t p counters g nowhere) (unmoved g)
+index-pid t p counters h e = packet-moves t p (Still t p h e) (still-moves t p h e) counters h (record { since = refl; list = refl })

@@ -21,7 +21,8 @@ use Rattle.programmes.specs.declared.Listed.{Listed}
 use Rattle.programmes.specs.Places.{placeOf}
 use Rattle.calls.specs.declared.Core.{Core}
 use Rattle.calls.specs.Cores.{listed, Held, fixedRoom, roomFor, withHalf, droppedRoom}
-use Rattle.calls.specs.Steps.{arrivedTable, touched, arrivedProgramme, listOn}
+use Rattle.calls.specs.Steps.{touched, arrivedProgramme, listOn}
+use Rattle.calls.proofs.Moves.{tableArrived, programmeArrived}
 use Rattle.demands.proofs.OthersRooms.{GoesOn, empty-goes-on}
 use Rattle.demands.proofs.OthersLists.{Timely, timely-touched, Alikes, alikes-itself, alikes-sym, alikes-trans, alikes-length, alikes-place, alikes-listed, alikes-touched, touched-other, AlikeListed, alike-by, Filled}
 use Rattle.demands.proofs.Lists.{take-front}
@@ -42,12 +43,6 @@ pub dropped-nowhere : (r : ℕ) (h : Held) → Shaped h → roomCount ≤ r → 
 dropped-nowhere r h s l = ap (λ ns. record { core = withHalf ns (h .core); memory = h .memory }) (set-out (h .core .half) r 0 (omega (arith, s .half)))
 
 -- A GOOD SECTION: of a fixed table, of a programme
-abbrev pub tableArrived : ℕ → ℕ → Held → Held
-tableArrived t r h = record { core = arrivedTable t r (h .core); memory = h .memory }
-
-abbrev pub programmeArrived : ℕ → ℕ → ℕ → Held → Held
-programmeArrived n q t h = record { core = arrivedProgramme n q t (h .core); memory = h .memory }
-
 pub table-shaped : (t r : ℕ) (h : Held) → t ≤ latestTime → Shaped h → Shaped (tableArrived t r h)
 table-shaped t r h early s =
     record {

@@ -26,7 +26,8 @@ use Rattle.demands.proofs.OthersLists.{Timely, Alikes, none, next}
 use Rattle.demands.proofs.OthersPids.{Shaped, IsFixed}
 use Rattle.demands.proofs.OthersAlike.{Closed}
 use Rattle.demands.proofs.OthersSteps.{AlikeWith, with-sym, with-trans, other-1, own-1}
-use Rattle.demands.proofs.OthersUnlisted.{Known, quiet-1}
+use Rattle.calls.proofs.Known.{KnownBytes}
+use Rattle.demands.proofs.OthersUnlisted.{quiet-1}
 
 -- A LIST that is alike to a sound one is sound, where no gap start is above 2^62
 module _ (mine : ℕ → Bool) where
@@ -119,7 +120,7 @@ module _ (keep : ℕ → Bool) where
   pub record Beside (g k : Given) : Type 0 where
     pub latest : g .state .latest ≡ k .state .latest
     pub alike : AlikeWith followed (heldOf (g .state) (g .memory)) (g .counters) (heldOf (k .state) (k .memory)) (k .counters)
-    pub unlisted : followed patPid ≡ false → (k .state .core .count ≡ 0) × Known (k .counters)
+    pub unlisted : followed patPid ≡ false → (k .state .core .count ≡ 0) × KnownBytes (k .counters)
 
   module _ (g k : Given) (b : Beside g k) where
     shaped : Shaped (heldOf (k .state) (k .memory))
@@ -216,7 +217,7 @@ module _ (keep : ℕ → Bool) where
           left : followed (pidOf p) ≡ false → AlikeWith followed (step1 t p (g .counters) h .held) (step1 t p (g .counters) h .counters) i (k .counters)
           left other =
               with-trans followed (step1 t p (g .counters) h .held) h i (step1 t p (g .counters) h .counters) (g .counters) (k .counters)
-              (other-1 followed followed-closed t early p other right (g .counters) h (b .alike .held .left)) (b .alike)
+              (other-1 followed followed-closed t early p other right h (g .counters) (b .alike .held .left)) (b .alike)
 
           both : (x : Bool) → followed (pidOf p) ≡ x
               → AlikeWith followed (step1 t p (g .counters) h .held) (step1 t p (g .counters) h .counters) (step1 t p (k .counters) i .held) (step1 t p (k .counters) i .counters)
@@ -225,12 +226,12 @@ module _ (keep : ℕ → Bool) where
               with-trans followed (step1 t p (g .counters) h .held) i (step1 t p (k .counters) i .held) (step1 t p (g .counters) h .counters) (k .counters)
               (step1 t p (k .counters) i .counters) (left other)
               (with-sym followed (step1 t p (k .counters) i .held) i (step1 t p (k .counters) i .counters) (k .counters)
-              (other-1 followed followed-closed t early p other right (k .counters) i (b .alike .held .right)))
+              (other-1 followed followed-closed t early p other right i (k .counters) (b .alike .held .right)))
 
-          still : keep (pidOf p) ≡ true → followed patPid ≡ false → (step1 t p (k .counters) i .held .core .count ≡ 0) × Known (step1 t p (k .counters) i .counters)
+          still : keep (pidOf p) ≡ true → followed patPid ≡ false → (step1 t p (k .counters) i .held .core .count ≡ 0) × KnownBytes (step1 t p (k .counters) i .counters)
           still kept gone =
               let apart : pidOf p ≢ patPid = λ q. true≢false (sym kept ∙ ap keep q ∙ unfollowed-pat gone) in
-              let quiet = quiet-1 t p apart (k .counters) i (shaped .inSync) right (b .unlisted gone .1) in
+              let quiet = quiet-1 t p apart right (k .counters) i (shaped .inSync) (b .unlisted gone .1) in
               (quiet .count ∙ b .unlisted gone .0, quiet .known)
 
           go : (x : Bool) → keep (pidOf p) ≡ x → Beside (acceptedAfter g (packet t p)) (acceptedAfter k (orClock x t p))

@@ -7,70 +7,40 @@ use native.Mathlib.Omega.{arith}
 use lib.Dec.{eqb}
 use lib.ListN.{length}
 use borrow.Author.Tests.{eqb-true}
-use Rattle.lists.proofs.Tests.{cond-either}
 use Rattle.lists.proofs.Places.{part-length}
-use Rattle.watches.specs.Tables.{fixedTables, tableOf, patPid, latestTime}
+use Rattle.watches.specs.Tables.{tableOf, patPid, latestTime}
 use Rattle.sections.specs.declared.Outcome.{Outcome}
 use Rattle.sections.specs.declared.Outcome.the-variants.{Unfinished, Good, Fault, Silent}
 use Rattle.sections.specs.Rooms.{roomCount, patRoom, roomBase, halfBuilt}
-use Rattle.sections.specs.Building.{Finished, Job, built}
+use Rattle.sections.specs.Building.{Finished, Job}
 use Rattle.sections.specs.Outcomes.{isPmtRoom, outcomeOf}
 use Rattle.sections.proofs.Stages.{room-fits}
 use Rattle.programmes.specs.Places.{halfAt}
-use Rattle.calls.specs.declared.Core.{Core}
 use Rattle.calls.specs.Cores.{listed, Held, roomFor}
 use Rattle.calls.specs.Steps.{arrivedTable, arrivedProgramme, newList, relisted, arrivedIn, bytesOf, absorbedBy, absorbed, absorbedAll, jobOf, builtIn, sectionsTaken}
+use Rattle.header.specs.Header.{pidOf, unitStart, payloadOf}
+use Rattle.calls.proofs.Moves.{tableArrived, payloadBuilt}
 use Rattle.demands.proofs.OthersRooms.{Within, Same, built-within, built-same}
 use Rattle.demands.proofs.OthersLists.{alike-list, list-filled}
 use Rattle.demands.proofs.OthersPids.{Shaped, shaped-fits, table-pid}
-use Rattle.demands.proofs.OthersAlike.{Alike, alike-itself, alike-trans, Closed, alike-room, tableArrived, table-shaped, other-changed, other-table, other-programme, other-list, own-changed, own-table, own-programme, own-list}
+use Rattle.demands.proofs.OthersAlike.{Alike, alike-trans, Closed, alike-room, table-shaped, other-changed, other-table, other-list, own-changed, own-table, own-programme, own-list}
 
 module _ (mine : ℕ → Bool) (closed : Closed mine) (t : ℕ) (early : t ≤ latestTime) where
-  -- OF A PID THAT IS NOT MINE: the sections of a room, where a fixed table's has its own PID
-  module _ (r q : ℕ) (other : mine q ≡ false) (table : r < length fixedTables → tableOf r .pid ≡ q) where
-    other-arrived : (n : ℕ) (z : List ℕ) (h : Held) → Shaped h → Alike mine (arrivedIn t r q n z h) h
-    other-arrived n z h s = go (eqb r patRoom) refl
-      where
-        go : (b : Bool) → eqb r patRoom ≡ b
-            → Alike mine
-            (cond b (relisted t z h) (record { core = cond (isPmtRoom r) (arrivedProgramme n q t (h .core)) (arrivedTable t r (h .core)); memory = h .memory })) h
-        go true e =
-            let at-pat : patPid ≡ q = subst (λ (i : ℕ). i < 5 → tableOf i .pid ≡ q) (eqb-true r patRoom e) table (omega arith) in
-            let unlisted : mine patPid ≡ false = ap mine at-pat ∙ other in
-            alike-trans mine (relisted t z h) (tableArrived t patRoom h) h
-            (other-list mine (tableArrived t patRoom h) (table-shaped t patRoom h early s) q other (newList t z (h .core)) (list-filled t early (listed (h .core)) (s .starts) z) unlisted (closed unlisted))
-            (other-table mine h s q other t patRoom early (λ l. at-pat))
-        go false e =
-            cond-either (λ (c : Core). Alike mine (record { core = c; memory = h .memory }) h) (isPmtRoom r) (arrivedProgramme n q t (h .core)) (arrivedTable t r (h .core))
-            (other-programme mine h s q other n t early) (other-table mine h s q other t r early table)
+  -- OF A PID THAT IS NOT MINE: its payload, and a list on PID 0
+  module _ (p : List ℕ) (other : mine (pidOf p) ≡ false) (h : Held) (s : Shaped h) where
+    pub other-built : roomFor (h .core) (pidOf p) < roomCount → Alike mine (payloadBuilt p (roomFor (h .core) (pidOf p)) h) h
+    other-built room =
+        let r = roomFor (h .core) (pidOf p) in
+        let j = jobOf r (unitStart p) (payloadOf p) h in
+        let w : Within r room (h .memory) j = built-within r room (h .memory) (halfAt (h .core .half) r) (unitStart p) (payloadOf p) (s .more r room) (s .memory) in
+        other-changed mine h s (pidOf p) other (j .half) (j .memory) room (w .more) (w .size) (w .others)
 
-    other-absorbed : (f : Finished) (h : Held) → Shaped h → Alike mine (absorbed t r q f h .held) h
-    other-absorbed f h s = go (outcomeOf r q f)
-      where
-        go : (o : Outcome) → Alike mine (absorbedBy o t r q (bytesOf f) h .held) h
-        go Unfinished = alike-itself mine h s
-        go (Good n) = other-arrived n (bytesOf f) h s
-        go (Fault x c i) = alike-itself mine h s
-        go Silent = alike-itself mine h s
-
-    other-all : (fs : List Finished) (h : Held) → Shaped h → Alike mine (absorbedAll t r q fs h .held) h
-    unfolding absorbedAll
-    other-all [] h s = alike-itself mine h s
-    other-all (f ∷ fs) h s =
-        let first = other-absorbed f h s in
-        alike-trans mine (absorbedAll t r q fs (absorbed t r q f h .held) .held) (absorbed t r q f h .held) h
-        (other-all fs (absorbed t r q f h .held) (first .left)) first
-
-  pub other-taken : (q : ℕ) (start : Bool) (z : List ℕ) (h : Held) → Shaped h → mine q ≡ false → roomFor (h .core) q < roomCount
-      → Alike mine (sectionsTaken t (roomFor (h .core) q) q start z h .held) h
-  unfolding sectionsTaken
-  other-taken q start z h s other room =
-      let r = roomFor (h .core) q in
-      let j = jobOf r start z h in
-      let w : Within r room (h .memory) j = built-within r room (h .memory) (halfAt (h .core .half) r) start z (s .more r room) (s .memory) in
-      let built : Alike mine (builtIn r j h) h = other-changed mine h s q other (j .half) (j .memory) room (w .more) (w .size) (w .others) in
-      alike-trans mine (absorbedAll t r q (j .finished) (builtIn r j h) .held) (builtIn r j h) h
-      (other-all r q other (table-pid (h .core) q) (j .finished) (builtIn r j h) (built .left)) built
+    pub other-relisted : (z : List ℕ) → patPid ≡ pidOf p → Alike mine (relisted t z h) h
+    other-relisted z at-pat =
+        let unlisted : mine patPid ≡ false = ap mine at-pat ∙ other in
+        alike-trans mine (relisted t z h) (tableArrived t patRoom h) h
+        (other-list mine (tableArrived t patRoom h) (table-shaped t patRoom h early s) (pidOf p) other (newList t z (h .core)) (list-filled t early (listed (h .core)) (s .starts) z) unlisted (closed unlisted))
+        (other-table mine h s (pidOf p) other t patRoom early (λ l. at-pat))
 
   -- OF A PID THAT IS MINE
   module _ (r q : ℕ) (index : r ≡ patRoom → mine patPid ≡ true) where

@@ -3,26 +3,28 @@
 use mathlib.Core.Path.{_≡_, refl, sym, ap, _∙_, subst}
 use mathlib.Core.Bool.{Bool, true, false, cond, _||_, true≢false}
 use mathlib.Core.List.{List, [], _∷_}
-use Prim.Native.Nat.{ℕ, _≤_}
+use Prim.Native.Nat.{ℕ, _≤_, _<_}
 use native.Mathlib.Omega.{arith}
 use lib.Dec.{ltb, eqb}
 use lib.ListN.{length, getD, set, length-set}
 use lib.Seq.{getD-set-same, getD-set-other, set-out}
 use borrow.Author.Tests.{eqb-true, eqb-false, ltb-true}
 use Rattle.events.specs.Faults.{continuityError}
-use Rattle.lists.proofs.Tests.{cond-either, Order, below, from, order}
-use Rattle.watches.specs.Tables.{latestTime}
+use Rattle.lists.proofs.Tests.{Order, below, from, order}
+use Rattle.watches.specs.Tables.{fixedTables, tableOf, latestTime}
 use Rattle.header.specs.Header.{rightSync, errorBit, unitStart, pidOf, scrambledBits, controlOf, payloadOf, headerOf}
 use Rattle.continuity.specs.declared.Counted.{Counted}
 use Rattle.continuity.specs.Continuity.{countedOf}
-use Rattle.sections.specs.Rooms.{roomCount}
+use Rattle.sections.specs.Rooms.{roomCount, patRoom}
+use Rattle.sections.specs.Building.{Finished}
 use Rattle.programmes.specs.Listing.{nullPid}
 use Rattle.calls.specs.Cores.{Held, roomFor, droppedRoom}
 use Rattle.calls.specs.Sync.{Synced, withSync, inSync, syncedOf}
-use Rattle.calls.specs.Steps.{Step, packetEvents, also, Absorbed, payloadTaken, sectionsTaken, step5, step4, step3, step2, step1, counted}
-use Rattle.demands.proofs.OthersPids.{Shaped, bytesIn}
-use Rattle.demands.proofs.OthersAlike.{rooms-same, Alike, alike-itself, alike-sym, alike-trans, Closed, alike-room, other-dropped, own-dropped}
-use Rattle.demands.proofs.OthersSections.{other-taken, own-taken}
+use Rattle.calls.specs.Steps.{Step, bytesOf, relisted, packetEvents, also, Absorbed, payloadTaken, sectionsTaken, step5, step4, step3, step2, step1, counted}
+use Rattle.calls.proofs.Moves.{From, syncedHeld, tableArrived, programmeArrived, payloadBuilt, Moves, packet-moves}
+use Rattle.demands.proofs.OthersPids.{Shaped, table-pid, bytesIn}
+use Rattle.demands.proofs.OthersAlike.{rooms-same, Alike, alike-itself, alike-sym, alike-trans, Closed, alike-room, other-dropped, other-table, other-programme, own-dropped}
+use Rattle.demands.proofs.OthersSections.{other-built, other-relisted, own-taken}
 
 module _ (mine : ℕ → Bool) where
   -- two states that are alike, with the same table bytes
@@ -47,9 +49,6 @@ module _ (mine : ℕ → Bool) where
 
   abbrev AlikeStep : Step → Step → Type 0
   AlikeStep a b = AlikeWith (a .held) (a .counters) (b .held) (b .counters)
-
-  abbrev Leaves : Held → List ℕ → Step → Type 0
-  Leaves h cs a = AlikeWith (a .held) (a .counters) h cs
 
   -- step 1 in sync
   abbrev synced : Held → Held
@@ -90,49 +89,36 @@ module _ (mine : ℕ → Bool) where
       }
 
   module _ (closed : Closed mine) (t : ℕ) (early : t ≤ latestTime) (p : List ℕ) where
-    -- OF A PID THAT IS NOT MINE
-    module _ (other : mine (pidOf p) ≡ false) where
-      other-payload : (h : Held) → Shaped h → Alike mine (payloadTaken t (roomFor (h .core) (pidOf p)) p h .held) h
-      other-payload h s = go (ltb (roomFor (h .core) (pidOf p)) roomCount) refl
-        where
-          go : (b : Bool) → ltb (roomFor (h .core) (pidOf p)) roomCount ≡ b
-              → Alike mine
-              (cond b (sectionsTaken t (roomFor (h .core) (pidOf p)) (pidOf p) (unitStart p) (payloadOf p) h) (record { held = h; events = [] }) .held) h
-          go true e = other-taken mine closed t early (pidOf p) (unitStart p) (payloadOf p) h s other (ltb-true (roomFor (h .core) (pidOf p)) roomCount e)
-          go false e = alike-itself mine h s
+    -- OF A PID THAT IS NOT MINE: each move leaves what is held alike to h, which was held before, and the table to cs
+    module _ (other : mine (pidOf p) ≡ false) (right : rightSync p ≡ true) (h : Held) (cs : List ℕ) where
+      abbrev Leaves : Held → List ℕ → Type 0
+      Leaves g ds = AlikeWith g ds h cs
 
-      other-5 : (take : Bool) (cs : List ℕ) (h : Held) → Shaped h → Leaves h cs (step5 t p take cs h)
-      other-5 take cs h s =
-          cond-either (Leaves h cs) (scrambledBits p) _ _ (with-held cs (droppedRoom (roomFor (h .core) (pidOf p)) h) h (other-dropped mine h s (pidOf p) other))
-          (cond-either (Leaves h cs) take _ _ (with-held cs (payloadTaken t (roomFor (h .core) (pidOf p)) p h .held) h (other-payload h s)) (with-held cs h h (alike-itself mine h s)))
+      moved : (g i : Held) (ds : List ℕ) → (Shaped g → Alike mine i g) → Leaves g ds → Leaves i ds
+      moved g i ds move k = record { held = alike-trans mine i g h (move (k .held .left)) (k .held); table = k .table; byte = k .byte }
 
-      other-4 : (cs : List ℕ) (h : Held) → Shaped h → Leaves h cs (step4 t p cs h)
-      other-4 cs h s =
-          let j = counted p cs in
-          let g = cond (j .keep) h (droppedRoom (roomFor (h .core) (pidOf p)) h) in
-          let kept : Alike mine g h = cond-either (λ (z : Held). Alike mine z h) (j .keep) h (droppedRoom (roomFor (h .core) (pidOf p)) h) (alike-itself mine h s) (other-dropped mine h s (pidOf p) other) in
-          let ds = set cs (pidOf p) (j .byte) in
-          with-trans (step5 t p (j .take) ds g .held) g h (step5 t p (j .take) ds g .counters) ds cs (other-5 (j .take) ds g (kept .left))
-          (record {
-            held = kept;
-            table = length-set cs (pidOf p) (j .byte);
-            byte = λ q z. getD-set-other cs (pidOf p) q (j .byte) 0 (λ e. true≢false (sym z ∙ ap mine e ∙ other));
-          })
+      -- a section of a fixed table's room has the table's PID
+      own-pid : (o : Held) (r : ℕ) (f : Finished) → From p o r f → r < length fixedTables → tableOf r .pid ≡ pidOf p
+      own-pid o r f source = subst (λ (i : ℕ). i < length fixedTables → tableOf i .pid ≡ pidOf p) (source .room) (table-pid (o .core) (pidOf p))
 
-      other-3 : (cs : List ℕ) (h : Held) → Shaped h → Leaves h cs (step3 t p cs h)
-      other-3 cs h s =
-          cond-either (Leaves h cs) (eqb (pidOf p) nullPid || eqb (controlOf p) 0) (record { held = h; counters = cs; events = [] }) (step4 t p cs h)
-          (with-held cs h h (alike-itself mine h s)) (other-4 cs h s)
+      leaves-moves : Moves t p Leaves
+      leaves-moves =
+          record {
+            synced = λ g ds k. moved g (syncedHeld p g) ds (λ s. subst (λ (y : Synced). Alike mine (record { core = y .core; memory = g .memory }) g) (sym (in-sync p g right s)) (synced-alike g s)) k;
+            byte = λ g ds k. record {
+              held = k .held;
+              table = length-set ds (pidOf p) (counted p ds .byte) ∙ k .table;
+              byte = λ q z. getD-set-other ds (pidOf p) q (counted p ds .byte) 0 (λ e. true≢false (sym z ∙ ap mine e ∙ other)) ∙ k .byte q z;
+            };
+            dropped = λ g ds k. moved g (droppedRoom (roomFor (g .core) (pidOf p)) g) ds (λ s. other-dropped mine g s (pidOf p) other) k;
+            built = λ g ds inside k. moved g (payloadBuilt p (roomFor (g .core) (pidOf p)) g) ds (λ s. other-built mine closed t early p other g s inside) k;
+            table = λ o g ds r f source before k. moved g (tableArrived t r g) ds (λ s. other-table mine g s (pidOf p) other t r early (own-pid o r f source)) k;
+            page = λ o g ds r f source before k n. moved g (programmeArrived n (pidOf p) t g) ds (λ s. other-programme mine g s (pidOf p) other n t early) k;
+            list = λ o g ds f source before k. moved g (relisted t (bytesOf f) g) ds (λ s. other-relisted mine closed t early p other g s (bytesOf f) (own-pid o patRoom f source (omega arith))) k;
+          }
 
-      other-2 : (cs : List ℕ) (h : Held) → Shaped h → Leaves h cs (step2 t p cs h)
-      other-2 cs h s = cond-either (Leaves h cs) (errorBit p) _ (step3 t p cs h) (with-held cs h h (alike-itself mine h s)) (other-3 cs h s)
-
-      pub other-1 : rightSync p ≡ true → (cs : List ℕ) (h : Held) → Shaped h → Leaves h cs (step1 t p cs h)
-      unfolding step1
-      other-1 right cs h s =
-          subst (λ (y : Synced). Leaves h cs (afterSync t p cs h y)) (sym (in-sync p h right s))
-          (with-trans (step2 t p cs (synced h) .held) (synced h) h (step2 t p cs (synced h) .counters) cs cs (other-2 cs (synced h) (synced-shaped h s))
-          (with-held cs (synced h) h (synced-alike h s)))
+      pub other-1 : Shaped h → Leaves (step1 t p cs h .held) (step1 t p cs h .counters)
+      other-1 s = packet-moves t p Leaves leaves-moves cs h (with-held cs h h (alike-itself mine h s))
 
     -- OF A PID THAT IS MINE
     module _ (own : mine (pidOf p) ≡ true) where

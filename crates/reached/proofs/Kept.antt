@@ -1,38 +1,33 @@
 -- What every step of a packet keeps: a sound core over section memory of bytes, and a counter table of known bytes. Assumes nothing.
 use mathlib.Core.Path.{_≡_, refl, ap, _∙_}
-use mathlib.Core.Bool.{Bool, true, false, cond, _||_}
-use mathlib.Core.List.{List, [], _∷_}
-use Prim.Native.Nat.{ℕ, _+_, _%_, _≤_, _<_}
+use mathlib.Core.Bool.{Bool, true, false, cond}
+use mathlib.Core.List.{List, []}
+use Prim.Native.Nat.{ℕ, _≤_, _<_}
 use native.Mathlib.Omega.{arith}
-use lib.Dec.{ltb, eqb}
-use lib.ListN.{length, getD, set, take, replicate, length-set, length-replicate, getD-replicate, length-take, List·getD-eq-default}
+use lib.Dec.{eqb}
+use lib.ListN.{length, getD, set, replicate, length-set, length-replicate, getD-replicate, length-take, List·getD-eq-default}
 use lib.Seq.{getD-set-same, getD-set-other}
-use borrow.Author.Tests.{eqb-true, eqb-false, ltb-true}
-use Rattle.lists.proofs.Tests.{cond-either}
-use Rattle.lists.proofs.Table.{passes-at}
-use Rattle.events.specs.Faults.{syncLoss, syncByteError, transportError}
+use borrow.Author.Tests.{eqb-true, eqb-false}
 use Rattle.watches.specs.Tables.{fixedTables, latestTime}
-use Rattle.header.specs.Header.{rightSync, errorBit, unitStart, pidOf, scrambledBits, controlOf, counterOf, payloadAt, payloadOf, headerOf, indicator}
-use Rattle.continuity.specs.Continuity.{knownByte, lastOf, repeatedOf, begun, unchanged, otherEmpty, followed, repeated, repeatedAgain, broken, counterCase, countedOf}
-use Rattle.sections.specs.declared.Outcome.{Outcome}
-use Rattle.sections.specs.declared.Outcome.the-variants.{Unfinished, Good, Fault, Silent}
+use Rattle.header.specs.Header.{rightSync, unitStart, pidOf, payloadAt, payloadOf}
 use Rattle.sections.specs.Rooms.{memorySize, roomCount, patRoom, roomBase, greatestLength, halfBuilt}
 use Rattle.sections.specs.Section.{stageOf, isMore}
 use Rattle.sections.specs.Building.{Finished, badLength, whole, Job}
-use Rattle.sections.specs.Outcomes.{isPmtRoom, outcomeOf}
 use Rattle.sections.proofs.Stages.{half-short, room-fits}
 use Rattle.sections.proofs.Jobs.{empty-more}
-use Rattle.programmes.specs.Listing.{mostListed, nullPid}
+use Rattle.programmes.specs.Listing.{mostListed}
 use Rattle.programmes.specs.Places.{halfAt}
 use Rattle.calls.specs.declared.Core.{Core}
 use Rattle.calls.specs.Cores.{Held, listed, roomFor, droppedRoom, opened}
-use Rattle.calls.specs.Sync.{Synced, withSync, lostNow, inSync, whileLost, syncedOf}
-use Rattle.calls.specs.Steps.{Step, arrivedTable, arrivedProgramme, newList, listedBy, relisted, arrivedIn, bytesOf, absorbedBy, absorbed, absorbedAll, builtIn, jobOf, sectionsTaken, payloadTaken, scramblingEvents, step5, counted, step4, packetEvents, step3, step2, step1}
+use Rattle.calls.specs.Sync.{withSync, lostNow}
+use Rattle.calls.specs.Steps.{arrivedTable, arrivedProgramme, newList, listedBy, relisted, bytesOf, builtIn, jobOf, counted, step1}
 use Rattle.calls.specs.Calls.{tableSize}
+use Rattle.calls.proofs.Moves.{Among, here, there, Moves, packet-moves, sync-moves}
+use Rattle.calls.proofs.Known.{KnownBytes, known-counted}
 use Rattle.calls.specs.Sound.{entriesSound, roomSound}
 use Rattle.reached.specs.Reached.{Bytes}
 use Rattle.reached.proofs.Places.{all-set, all-replicate, all-drop}
-use Rattle.reached.proofs.Built.{SectionBytes, AllSections, none, some, Keeps, built-keeps}
+use Rattle.reached.proofs.Built.{AllSections, some, Keeps, built-keeps}
 use Rattle.reached.proofs.Listing.{list-sound, front-sound}
 use Rattle.reached.proofs.Moving.{moved-halves, moved-length, moved-bytes, moved-sound}
 
@@ -49,38 +44,10 @@ pub record Kept (h : Held) : Type 0 where
 -- THE COUNTER TABLE
 pub record Known (counters : List ℕ) : Type 0 where
   pub size : length counters ≡ tableSize
-  pub bytes : (k : ℕ) → knownByte (getD counters k 0) ≡ true
+  pub bytes : KnownBytes counters
 
-known-set : (counters : List ℕ) (q b : ℕ) → knownByte b ≡ true → Known counters → Known (set counters q b)
-known-set counters q b e c =
-    record { size = length-set counters q b ∙ c .size; bytes = all-set (λ x. knownByte x ≡ true) counters q b e (c .bytes) }
-
-known-once : (n : ℕ) → n < 16 → knownByte (16 + n) ≡ true
-known-once = passes-at (λ n. knownByte (16 + n)) 16 refl
-
-known-twice : (n : ℕ) → n < 16 → knownByte (48 + n) ≡ true
-known-twice = passes-at (λ n. knownByte (48 + n)) 16 refl
-
-case-known : (b control n : ℕ) (discontinuity : Bool) → n < 16 → knownByte b ≡ true → knownByte (counterCase b control n discontinuity .byte) ≡ true
-case-known b control n discontinuity h e = go (discontinuity || eqb b 0) (eqb control 2) (eqb n (lastOf b)) (eqb n ((lastOf b + 1) % 16)) (repeatedOf b)
-  where
-    go : (first empty same next again : Bool)
-        → knownByte (cond first (begun n)
-        (cond empty (cond same (unchanged b) (otherEmpty n))
-        (cond next (followed n)
-        (cond same (cond again (repeatedAgain b) (repeated n))
-        (broken n)))) .byte) ≡ true
-    go true empty same next again = known-once n h
-    go false true true next again = e
-    go false true false next again = known-once n h
-    go false false same true again = known-once n h
-    go false false true false true = e
-    go false false true false false = known-twice n h
-    go false false false false again = known-once n h
-
-counted-known : (b : ℕ) (p : List ℕ) → knownByte b ≡ true → knownByte (countedOf b (headerOf p) .byte) ≡ true
-unfolding countedOf headerOf
-counted-known b p e = case-known b (controlOf p) (counterOf p) (indicator p) (omega arith) e
+known-kept : (p counters : List ℕ) → Known counters → Known (set counters (pidOf p) (counted p counters .byte))
+known-kept p counters c = record { size = length-set counters (pidOf p) (counted p counters .byte) ∙ c .size; bytes = known-counted p counters (c .bytes) }
 
 -- ROOMS, where one room's length becomes n
 room-other : (ns m m₀ : List ℕ) (r q n : ℕ) → (q ≡ r → ⊥) → halfBuilt m q (halfAt ns q) ≡ halfBuilt m₀ q (halfAt ns q) → roomSound ns m₀ q ≡ true
@@ -114,9 +81,6 @@ opened-kept t m h l b =
     }
 
 -- STEP 1: sync
-abbrev SyncKept : List ℕ → Synced → Type 0
-SyncKept m y = Kept (record { core = y .core; memory = m })
-
 module _ (c : Core) (m : List ℕ) (k : Kept (record { core = c; memory = m })) where
   with-sync : (lost : Bool) (run : ℕ) → run ≤ cond lost 4 1 → Kept (record { core = withSync lost run c; memory = m })
   with-sync lost run h =
@@ -134,27 +98,6 @@ module _ (c : Core) (m : List ℕ) (k : Kept (record { core = c; memory = m })) 
         run = omega arith;
         rooms = rooms-empty m;
       }
-
-  pub synced-kept : (right : Bool) → Kept (record { core = syncedOf right c .core; memory = m })
-  synced-kept right = go (c .lost) (k .run) right
-    where
-      fifth : (b : Bool) → eqb (c .run) 4 ≡ b → c .run ≤ 4
-          → SyncKept m (cond b (record { core = withSync false 0 c; faults = []; further = true }) (record { core = withSync true (c .run + 1) c; faults = []; further = false }))
-      fifth true e h = with-sync false 0 (omega arith)
-      fifth false e h =
-          let other = eqb-false (c .run) 4 e in
-          with-sync true (c .run + 1) (omega arith)
-
-      go : (lost : Bool) → c .run ≤ cond lost 4 1 → (right : Bool) → SyncKept m (cond lost (whileLost right c) (inSync right c))
-      go true h true = fifth (eqb (c .run) 4) refl h
-      go true h false = with-sync true 0 (omega arith)
-      go false h true = with-sync false 0 (omega arith)
-      go false h false =
-          cond-either (SyncKept m) (eqb (c .run) 1)
-          (record { core = lostNow c; faults = syncByteError ∷ syncLoss ∷ []; further = false })
-          (record { core = withSync false 1 c; faults = syncByteError ∷ []; further = false })
-          lost-now
-          (with-sync false 1 (omega arith))
 
 -- A ROOM'S LENGTH becomes that of a job there, or 0
 pub built-in-kept : (r : ℕ) (j : Job) (h : Held) → r < roomCount → Kept h → Keeps r (h .memory) j → Kept (builtIn r j h)
@@ -239,83 +182,36 @@ module _ (t : ℕ) (time : t ≤ latestTime) where
         rooms = moved-sound old new (h .core .half) (h .memory) (k .size) (k .halves) most (k .rooms);
       }
 
-  arrived-kept : (r pid n : ℕ) (s : List ℕ) (h : Held) → Bytes s → Kept h → Kept (arrivedIn t r pid n s h)
-  arrived-kept r pid n s h b k =
-      cond-either Kept (eqb r patRoom) (relisted t s h)
-      (record { core = cond (isPmtRoom r) (arrivedProgramme n pid t (h .core)) (arrivedTable t r (h .core)); memory = h .memory })
-      (relisted-kept s h b k)
-      (cond-either (λ (c : Core). Kept (record { core = c; memory = h .memory })) (isPmtRoom r) (arrivedProgramme n pid t (h .core)) (arrivedTable t r (h .core))
-      (programme-kept n pid h k) (table-kept r h k))
+  -- THE SECTIONS of a payload have bytes
+  section-bytes : (f : Finished) (fs : List Finished) → Among f fs → AllSections fs → Bytes (bytesOf f)
+  section-bytes badLength fs here (some x xs b all) k = omega (arith, List·getD-eq-default {A = ℕ} [] 0 {n = k} (omega arith))
+  section-bytes (whole s) fs here (some x xs b all) k = b k
+  section-bytes f fs (there a) (some x xs b all) k = section-bytes f xs a all k
 
-  absorbed-kept : (o : Outcome) (r pid : ℕ) (s : List ℕ) (h : Held) → Bytes s → Kept h → Kept (absorbedBy o t r pid s h .held)
-  absorbed-kept Unfinished r pid s h b k = k
-  absorbed-kept (Good n) r pid s h b k = arrived-kept r pid n s h b k
-  absorbed-kept (Fault f a i) r pid s h b k = k
-  absorbed-kept Silent r pid s h b k = k
-
-  section-bytes : (f : Finished) → SectionBytes f → Bytes (bytesOf f)
-  section-bytes badLength b k = omega (arith, List·getD-eq-default {A = ℕ} [] 0 {n = k} (omega arith))
-  section-bytes (whole s) b k = b k
-
-  absorbed-all-kept : (r pid : ℕ) (fs : List Finished) (h : Held) → AllSections fs → Kept h → Kept (absorbedAll t r pid fs h .held)
-  unfolding absorbedAll
-  absorbed-all-kept r pid [] h none k = k
-  absorbed-all-kept r pid (f ∷ fs) h (some x xs b rest) k =
-      absorbed-all-kept r pid fs (absorbed t r pid f h .held) rest (absorbed-kept (outcomeOf r pid f) r pid (bytesOf f) h (section-bytes f b) k)
-
-  -- A PAYLOAD
-  taken-kept : (r pid : ℕ) (start : Bool) (s : List ℕ) (h : Held) → r < roomCount → Bytes s → Kept h → Kept (sectionsTaken t r pid start s h .held)
-  unfolding sectionsTaken
-  taken-kept r pid start s h room b k =
-      let keeps = built-keeps r (h .memory) room (halfAt (h .core .half) r) start s (k .size) (k .bytes) (k .rooms r room) b in
-      absorbed-all-kept r pid (jobOf r start s h .finished) (builtIn r (jobOf r start s h) h) (keeps .finished) (built-in-kept r (jobOf r start s h) h room k keeps)
+  -- THE WHOLE PACKET, with the table
+  abbrev BothKept : Held → List ℕ → Type 0
+  BothKept h cs = Kept h × Known cs
 
   module _ (p : List ℕ) (b : Bytes p) where
-    payload-kept : (r : ℕ) (h : Held) → Kept h → Kept (payloadTaken t r p h .held)
-    payload-kept r h k = go (ltb r roomCount) refl
-      where
-        go : (in-range : Bool) → ltb r roomCount ≡ in-range
-            → Kept (cond in-range (sectionsTaken t r (pidOf p) (unitStart p) (payloadOf p) h) (record { held = h; events = [] }) .held)
-        go true e = taken-kept r (pidOf p) (unitStart p) (payloadOf p) h (ltb-true r roomCount e) (all-drop (λ x. x < 256) (payloadAt p) p b) k
-        go false e = k
+    keeps : (g : Held) (r : ℕ) → r < roomCount → Kept g → Keeps r (g .memory) (jobOf r (unitStart p) (payloadOf p) g)
+    keeps g r inside k =
+        built-keeps r (g .memory) inside (halfAt (g .core .half) r) (unitStart p) (payloadOf p) (k .size) (k .bytes) (k .rooms r inside) (all-drop (λ x. x < 256) (payloadAt p) p b)
 
-    -- STEPS 5 to 2, with the table
-    abbrev StepKept : Step → Type 0
-    StepKept x = Kept (x .held) × Known (x .counters)
+    moves : Moves t p BothKept
+    moves =
+        record {
+          synced = λ h cs k. (
+            sync-moves (λ (c : Core). Kept (record { core = c; memory = h .memory })) (h .core)
+                (λ lost run sound. with-sync (h .core) (h .memory) (k .0) lost run (sound (k .0 .run))) (lost-now (h .core) (h .memory) (k .0)) (rightSync p),
+            k .1,
+          );
+          byte = λ h cs k. (k .0, known-kept p cs (k .1));
+          dropped = λ h cs k. (dropped-kept (roomFor (h .core) (pidOf p)) h (k .0), k .1);
+          built = λ h cs inside k. (built-in-kept (roomFor (h .core) (pidOf p)) _ h inside (k .0) (keeps h (roomFor (h .core) (pidOf p)) inside (k .0)), k .1);
+          table = λ g h cs r f from before k. (table-kept r h (k .0), k .1);
+          page = λ g h cs r f from before k n. (programme-kept n (pidOf p) h (k .0), k .1);
+          list = λ g h cs f from k l. (relisted-kept (bytesOf f) h (section-bytes f _ (from .among) (keeps g patRoom (from .inside) (k .0) .finished)) (l .0), l .1);
+        }
 
-    five-kept : (take : Bool) (counters : List ℕ) (h : Held) → Kept h → Known counters → StepKept (step5 t p take counters h)
-    five-kept take counters h k c =
-        let r = roomFor (h .core) (pidOf p) in
-        let a = payloadTaken t r p h in
-        let taken : Step = record { held = a .held; counters = counters; events = a .events } in
-        let left : Step = record { held = h; counters = counters; events = [] } in
-        cond-either StepKept (scrambledBits p)
-        (record { held = droppedRoom r h; counters = counters; events = scramblingEvents t (h .core) (pidOf p) })
-        (cond take taken left)
-        (dropped-kept r h k, c)
-        (cond-either StepKept take taken left (payload-kept r h k, c) (k, c))
-
-    four-kept : (counters : List ℕ) (h : Held) → Kept h → Known counters → StepKept (step4 t p counters h)
-    four-kept counters h k c =
-        let j = counted p counters in
-        let r = roomFor (h .core) (pidOf p) in
-        five-kept (j .take) (set counters (pidOf p) (j .byte)) (cond (j .keep) h (droppedRoom r h))
-        (cond-either Kept (j .keep) h (droppedRoom r h) k (dropped-kept r h k))
-        (known-set counters (pidOf p) (j .byte) (counted-known (getD counters (pidOf p) 0) p (c .bytes (pidOf p))) c)
-
-    three-kept : (counters : List ℕ) (h : Held) → Kept h → Known counters → StepKept (step3 t p counters h)
-    three-kept counters h k c =
-        cond-either StepKept (eqb (pidOf p) nullPid || eqb (controlOf p) 0) (record { held = h; counters = counters; events = [] }) (step4 t p counters h) (k, c) (four-kept counters h k c)
-
-    two-kept : (counters : List ℕ) (h : Held) → Kept h → Known counters → StepKept (step2 t p counters h)
-    two-kept counters h k c =
-        cond-either StepKept (errorBit p) (record { held = h; counters = counters; events = packetEvents t p (transportError ∷ []) }) (step3 t p counters h) (k, c) (three-kept counters h k c)
-
-    -- THE WHOLE PACKET
-    pub packet-kept : (counters : List ℕ) (h : Held) → Kept h → Known counters → StepKept (step1 t p counters h)
-    unfolding step1
-    packet-kept counters h k c =
-        let y = syncedOf (rightSync p) (h .core) in
-        let g : Held = record { core = y .core; memory = h .memory } in
-        let kept : Kept g = synced-kept (h .core) (h .memory) k (rightSync p) in
-        cond-either StepKept (y .further) (step2 t p counters g) (record { held = g; counters = counters; events = [] }) (two-kept counters g kept c) (kept, c)
+    pub packet-kept : (counters : List ℕ) (h : Held) → Kept h → Known counters → Kept (step1 t p counters h .held) × Known (step1 t p counters h .counters)
+    packet-kept counters h k c = packet-moves t p BothKept moves counters h (k, c)
