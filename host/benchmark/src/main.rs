@@ -1,4 +1,5 @@
-//! The product beside ordinary Rust: `benchmark [--rounds N] [--packets N] [--tsevents PROGRAM]`.
+//! The product beside ordinary Rust: `benchmark [--rounds N] [--packets N] [--tsevents PROGRAM]`; or `benchmark --write
+//! FILE [--packets N]`, which writes a stream as common multiplexers do, for other programs to read.
 //!
 //! Both judge the same packets in one process, in rounds that alternate; a line gives the time for a packet of each and
 //! the ratio (product by reference: below 1 the product is faster), each as the median with the least and the greatest
@@ -13,17 +14,18 @@ use rounds::{alternate, compare, opaque, Clock};
 use songpigeon::lent;
 use songpigeon_reference::{probe, testdata, Event};
 use std::path::PathBuf;
-use std::{env, process};
+use std::{env, fs, process};
 use streams::Stream;
 
 struct Options {
     rounds: usize,
     packets: usize,
     program: Option<PathBuf>,
+    file: Option<PathBuf>,
 }
 
 fn options() -> Options {
-    let mut options = Options { rounds: 9, packets: 1_000_000, program: None };
+    let mut options = Options { rounds: 9, packets: 1_000_000, program: None, file: None };
     let words: Vec<String> = env::args().skip(1).collect();
     for pair in words.chunks(2) {
         let value = pair.get(1).map_or("", String::as_str);
@@ -31,8 +33,9 @@ fn options() -> Options {
             ("--rounds", Ok(n)) => options.rounds = n.max(1),
             ("--packets", Ok(n)) => options.packets = n.max(1),
             ("--tsevents", _) => options.program = Some(PathBuf::from(value)),
+            ("--write", _) => options.file = Some(PathBuf::from(value)),
             _ => {
-                eprintln!("benchmark [--rounds N] [--packets N] [--tsevents PROGRAM]");
+                eprintln!("benchmark [--rounds N] [--packets N] [--tsevents PROGRAM] [--write FILE]");
                 process::exit(2);
             }
         }
@@ -71,13 +74,21 @@ fn packets(options: &Options) {
     println!("packets ({} a round), ns for each: product, reference, ratio", options.packets);
     for programmes in [0, 8, 16] {
         for share in [0, 1, 3, 5] {
-            let stream = Stream::new(options.packets, share, programmes);
-            assert_eq!(by_product(&stream), by_reference(&stream), "the two give other events");
-            let times = alternate(Clock::Processor, options.rounds, || by_product(&stream), || by_reference(&stream));
             let name = format!("{:>2} programmes, {} % tables", programmes, share);
-            compare(&name, options.packets, &times);
+            beside(options, &name, &Stream::new(options.packets, share, programmes, false));
+            if share > 0 {
+                beside(options, "   with adaptation fields", &Stream::new(options.packets, share, programmes, true));
+            }
         }
     }
+    beside(options, "3.4 % PAT and 3.4 % PMT", &Stream::common(options.packets));
+}
+
+/// One stream by both.
+fn beside(options: &Options, name: &str, stream: &Stream) {
+    assert_eq!(by_product(stream), by_reference(stream), "the two give other events");
+    let times = alternate(Clock::Processor, options.rounds, || by_product(stream), || by_reference(stream));
+    compare(name, options.packets, &times);
 }
 
 fn crc(options: &Options) {
@@ -97,6 +108,13 @@ fn crc(options: &Options) {
 
 fn main() {
     let options = options();
+    if let Some(file) = &options.file {
+        if let Err(what) = fs::write(file, Stream::common(options.packets).bytes()) {
+            eprintln!("{}: {}", file.display(), what);
+            process::exit(1);
+        }
+        return;
+    }
     packets(&options);
     crc(&options);
     if let Some(program) = &options.program {

@@ -1,5 +1,6 @@
 //! A multiplex of 60 Mbit/s: so many packets in a hundred carry tables, the others pictures and sound, half of them
-//! scrambled, one in twenty with a clock reference, one in twenty a null packet.
+//! scrambled, one in twenty with a clock reference, one in twenty a null packet. And a file as common multiplexers write
+//! it, with PAT and PMT far more often than needed.
 
 use songpigeon_reference::streams::*;
 use songpigeon_reference::testdata::{self, Head, Section, Syntax};
@@ -12,23 +13,57 @@ const HEX: &[u8; 16] = b"0123456789abcdef";
 pub struct Stream(Vec<u8>);
 
 impl Stream {
-    pub fn new(packets: usize, share: usize, programmes: u16) -> Stream {
-        let tables = Tables::new(programmes);
+    /// So many packets, numbered from 0 on, each with the next counter of its PID.
+    fn counted(packets: usize, packet_at: impl Fn(usize) -> [u8; 188]) -> Stream {
         let mut bytes = Vec::with_capacity(188 * packets);
         let mut counters = [15u8; 8_192];
-        let mut add = |packet: &mut [u8; 188]| {
+        for k in 0..packets {
+            let mut packet = packet_at(k);
             let pid = usize::from(u16::from_be_bytes([packet[1], packet[2]]) & 0x1FFF);
             counters[pid] = (counters[pid] + 1) & 15;
             packet[3] |= counters[pid];
             bytes.extend(&packet[..]);
-        };
-        for k in 0..packets {
+        }
+        Stream(bytes)
+    }
+
+    /// So many packets in a hundred carry tables, each, where `fields` is set, behind an adaptation field of length 0.
+    pub fn new(packets: usize, share: usize, programmes: u16, fields: bool) -> Stream {
+        let tables = Tables::new(programmes, fields);
+        Stream::counted(packets, |k| {
             // the first packet lists the programmes in every mix
             let table = k == 0 || k % 100 < share;
             let number = if k == 0 { 0 } else { k / 100 * share + k % 100 };
-            add(&mut if table { tables.packet(number) } else { other(k) });
+            if table {
+                tables.packet(number)
+            } else {
+                other(k)
+            }
+        })
+    }
+
+    /// One programme: of 500 packets 17 carry the PAT and 17 the PMT, half are null packets, and the others are pictures
+    /// and sound in the clear.
+    pub fn common(packets: usize) -> Stream {
+        // PCR_PID, no descriptors, and three streams without descriptors
+        let mut body = vec![0xE1, 0x00, 0xF0, 0x00];
+        for (kind, pid) in [(0x1B, 0), (0x0F, 1), (0x06, 2)] {
+            body.extend([kind, 0xE1, pid, 0xF0, 0x00]);
         }
-        Stream(bytes)
+        let pat = Packet::sections(PAT_PID, 0, &[&pat(&[(1, 0x1000)])]).bytes();
+        let pmt = Packet::sections(0x1000, 0, &[&section(0x02, 1, &body)]).bytes();
+        let null = Packet::on(NULL_PID, 0).bytes();
+        // 241 has no divisor in common with 500: each kind is spread over the 500
+        Stream::counted(packets, |k| match k % 500 * 241 % 500 {
+            0..=16 => pat,
+            100..=116 => pmt,
+            250..=499 => null,
+            _ => Packet::on(0x0100 + (k % 3) as u16, 0).bytes(),
+        })
+    }
+
+    pub fn bytes(&self) -> &[u8] {
+        &self.0
     }
 
     pub fn packets(&self) -> impl Iterator<Item = (u64, &[u8])> {
@@ -61,16 +96,16 @@ fn other(k: usize) -> [u8; 188] {
 struct Tables(Vec<[u8; 188]>);
 
 impl Tables {
-    fn new(programmes: u16) -> Tables {
+    fn new(programmes: u16, fields: bool) -> Tables {
         let list: Vec<(u16, u16)> = (1..=programmes).map(|n| (n, 0x0100 + n)).collect();
-        let mut all = packets(PAT_PID, &pat(&list));
+        let mut all = packets(PAT_PID, &pat(&list), fields);
         for &(number, pid) in &list {
-            all.extend(packets(pid, &section(0x02, number, &[0x5A; 60])));
+            all.extend(packets(pid, &section(0x02, number, &[0x5A; 60]), fields));
         }
-        all.extend(packets(NIT_PID, &section(0x40, 1, &[0x5A; 250])));
-        all.extend(packets(SDT_PID, &section(0x42, 1, &[0x5A; 500])));
-        all.extend(packets(EIT_PID, &section(0x4E, 1, &[0x5A; 900])));
-        all.extend(packets(TDT_PID, &tdt()));
+        all.extend(packets(NIT_PID, &section(0x40, 1, &[0x5A; 250]), fields));
+        all.extend(packets(SDT_PID, &section(0x42, 1, &[0x5A; 500]), fields));
+        all.extend(packets(EIT_PID, &section(0x4E, 1, &[0x5A; 900]), fields));
+        all.extend(packets(TDT_PID, &tdt(), fields));
         Tables(all)
     }
 
@@ -79,11 +114,14 @@ impl Tables {
     }
 }
 
-/// A section in as many packets as it takes, the last filled up with stuffing.
-fn packets(pid: u16, section: &[u8]) -> Vec<[u8; 188]> {
-    let (first, rest) = section.split_at(section.len().min(183));
-    let mut all = vec![Packet::sections(pid, 0, &[first]).bytes()];
-    all.extend(rest.chunks(184).map(|bytes| Packet::on(pid, 0).payload(bytes).bytes()));
+/// A section in as many packets as it takes, the last filled up with stuffing; each packet, where `fields` is set, with an
+/// adaptation field of length 0.
+fn packets(pid: u16, section: &[u8], fields: bool) -> Vec<[u8; 188]> {
+    let with = |packet: Packet| if fields { packet.field(3, 0, 0).bytes() } else { packet.bytes() };
+    let room = if fields { 183 } else { 184 };
+    let (first, rest) = section.split_at(section.len().min(room - 1));
+    let mut all = vec![with(Packet::sections(pid, 0, &[first]))];
+    all.extend(rest.chunks(room).map(|bytes| with(Packet::on(pid, 0).payload(bytes))));
     all
 }
 

@@ -21,7 +21,7 @@ fn run_on(program: &Path, log: &Path) -> io::Result<()> {
 pub fn run(program: &Path, rounds: usize) -> io::Result<()> {
     let decoder = env::current_exe()?.with_file_name("decode_only");
     let log = env::temp_dir().join(format!("songpigeon-benchmark-{}", process::id()));
-    fs::write(&log, Stream::new(LINES, 3, 8).text())?;
+    fs::write(&log, Stream::new(LINES, 3, 8, false).text())?;
     run_on(program, &log)?;
     run_on(&decoder, &log)?;
     let times = alternate(
