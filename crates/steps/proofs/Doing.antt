@@ -1,14 +1,15 @@
 -- Steps done, one after the other, and each step by its tests. Assumes nothing.
 use mathlib.Core.Path.{_≡_, refl, sym, ap, subst, _∙_}
-use mathlib.Core.Bool.{Bool, true, false, cond, _||_}
-use mathlib.Core.List.{List, [], _∷_}
-use Prim.Native.Nat.{ℕ, _+_, _≤_}
+use mathlib.Core.Bool.{Bool, true, false, cond, _&&_, _||_}
+use mathlib.Core.List.{List, [], _∷_, _++_, append-nil}
+use Prim.Native.Nat.{ℕ, _+_, _≤_, _<_}
 use native.Mathlib.Omega.{arith}
 use lib.Dec.{eqb, ltb}
 use lib.ListN.{length, set}
+use lib.Seq.{set-set}
 use Rattle.lists.specs.Laying.{laid}
 use Rattle.lists.proofs.Tests.{cond-either}
-use Rattle.lists.proofs.Laying.{laid-turn}
+use Rattle.lists.proofs.Laying.{laid-turn, laid-length}
 use Rattle.events.specs.declared.Event.{Event}
 use Rattle.events.specs.Events.{numbersOf, eventsLaid}
 use Rattle.events.specs.Faults.{transportError, continuityError}
@@ -20,9 +21,11 @@ use Rattle.programmes.specs.Listing.{nullPid}
 use Rattle.calls.specs.declared.Core.{Core}
 use Rattle.calls.specs.Cores.{Held, roomFor, withHalf, droppedRoom}
 use Rattle.calls.specs.Sync.{Synced, inSync, whileLost, syncedOf}
-use Rattle.calls.specs.Steps.{Step, packetEvents, also, sectionsTaken, scramblingEvents, counted, step1, step2, step4, step5}
+use Rattle.calls.specs.Steps.{Step, Absorbed, packetEvents, also, sectionsTaken, scramblingEvents, counted, step1, step2, step4, step5}
 use Rattle.payloads.specs.Taking.{held}
-use Rattle.steps.specs.Judging.{Done, faultEvents, Caught}
+use Rattle.steps.proofs.Rooms.{room-kept}
+use Rattle.steps.specs.declared.Course.{Course}
+use Rattle.steps.specs.Judging.{Done, faultEvents, CaughtAs, coursed, Leads}
 
 -- A STEP done is done by any name
 pub done-as : {x y : Step} {most : ℕ} {c : Core} {cs m before : List ℕ} {n : ℕ} {after : List ℕ} {r : ℕ} → x ≡ y
@@ -38,6 +41,11 @@ pub done-quiet : (h : Held) (cs : List ℕ) (most : ℕ) (list : List ℕ) (n : 
 unfolding laid
 done-quiet h cs most list n =
     record { core = refl; counters = refl; memory = refl; next = omega arith; laid = refl; few = omega arith }
+
+-- what it holds, by another name
+pub done-from : {g h : Held} {cs : List ℕ} {most : ℕ} {list : List ℕ} {n : ℕ} → g ≡ h
+    → Done (quiet g cs) most (g .core) cs (g .memory) list n list n → Done (quiet h cs) most (g .core) cs (g .memory) list n list n
+done-from {g = g} {cs = cs} {most = most} {list = list} {n = n} e d = subst (λ h. Done (quiet h cs) most (g .core) cs (g .memory) list n list n) e d
 
 -- events, then a step
 pub done-also : (x : Step) (es : List Event) (k most : ℕ) (c : Core) (cs m before : List ℕ) (n : ℕ) (mid : List ℕ) (i : ℕ) (after : List ℕ) (r : ℕ)
@@ -72,63 +80,121 @@ fields h p e =
 
 -- EACH STEP by its tests
 module _ (t : ℕ) (p cs : List ℕ) (h : Held) where
-  pub error-ends : errorBit p ≡ true → step2 t p cs h ≡ record { held = h; counters = cs; events = packetEvents t p (transportError ∷ []) }
+  pub error-ends : errorBit p ≡ true → also (packetEvents t p (transportError ∷ [])) (quiet h cs) ≡ step2 t p cs h
   error-ends e = rw e
 
-  pub null-ends : errorBit p ≡ false → (eqb (pidOf p) nullPid || eqb (controlOf p) 0) ≡ true → step2 t p cs h ≡ quiet h cs
+  pub null-ends : errorBit p ≡ false → (eqb (pidOf p) nullPid || eqb (controlOf p) 0) ≡ true → also [] (quiet h cs) ≡ step2 t p cs h
   null-ends e n = rw (e, n)
 
-  pub header-passed : errorBit p ≡ false → (eqb (pidOf p) nullPid || eqb (controlOf p) 0) ≡ false → step2 t p cs h ≡ step4 t p cs h
+  pub header-passed : errorBit p ≡ false → (eqb (pidOf p) nullPid || eqb (controlOf p) 0) ≡ false → step4 t p cs h ≡ step2 t p cs h
   header-passed e n = rw (e, n)
 
-  module _ (taking : Bool) where
-    pub scrambled-ends : scrambledBits p ≡ true
-        → step5 t p taking cs h ≡ record { held = droppedRoom (roomFor (h .core) (pidOf p)) h; counters = cs; events = scramblingEvents t (h .core) (pidOf p) }
-    scrambled-ends e = rw e
+-- STEP 5, after step 4 has kept what is half-built in the room, or has not
+module _ (t : ℕ) (p table : List ℕ) (c : Core) (m : List ℕ) (taking : Bool) where
+  abbrev room : ℕ
+  room = roomFor c (pidOf p)
 
-    pub skipped-ends : scrambledBits p ≡ false → taking ≡ false → step5 t p taking cs h ≡ quiet h cs
-    skipped-ends e n = rw (e, n)
+  abbrev kept : Bool → Held
+  kept b = cond b (held c m) (droppedRoom room (held c m))
 
-    pub elsewhere-ends : scrambledBits p ≡ false → taking ≡ true → ltb (roomFor (h .core) (pidOf p)) roomCount ≡ false → step5 t p taking cs h ≡ quiet h cs
-    elsewhere-ends e n r = rw (e, n, r)
+  pub scrambled-ends : (b : Bool) → scrambledBits p ≡ true
+      → step5 t p taking table (kept b) ≡ record { held = droppedRoom room (held c m); counters = table; events = scramblingEvents t c (pidOf p) }
+  scrambled-ends true e = rw e
+  scrambled-ends false e =
+      rw (e, room-kept (set (c .half) room 0) c (pidOf p))
+      (ap (λ (ns : List ℕ). record { held = held (withHalf ns c) m; counters = table; events = scramblingEvents t c (pidOf p) }) (set-set (c .half) room 0 0))
 
-    pub sections-end : scrambledBits p ≡ false → taking ≡ true → ltb (roomFor (h .core) (pidOf p)) roomCount ≡ true
-        → step5 t p taking cs h
-        ≡ (let a = sectionsTaken t (roomFor (h .core) (pidOf p)) (pidOf p) (unitStart p) (payloadOf p) h in record { held = a .held; counters = cs; events = a .events })
-    sections-end e n r = rw (e, n, r)
+  pub clear-ends : (b : Bool) (i : ℕ) → scrambledBits p ≡ false
+      → step5 t p taking table (kept b) ≡ coursed t p (record { n = i; room = room; keep = b; take = taking && ltb room roomCount }) table (held c m)
+  clear-ends b i e = rw (e, same b) (go taking (ltb room roomCount))
+    where
+      same : (b : Bool) → roomFor (kept b .core) (pidOf p) ≡ room
+      same true = refl
+      same false = room-kept (set (c .half) room 0) c (pidOf p)
 
--- STEP 4, where its verdict is j and k is the core after it
-kept-held : (b : Bool) (c : Core) (m : List ℕ) (r : ℕ)
+      a : Absorbed
+      a = sectionsTaken t room (pidOf p) (unitStart p) (payloadOf p) (kept b)
+
+      after : Held → List Event → Step
+      after h es = record { held = h; counters = table; events = es }
+
+      go : (x y : Bool)
+          → cond x (after (cond y a (record { held = kept b; events = [] }) .held) (cond y a (record { held = kept b; events = [] }) .events)) (after (kept b) [])
+          ≡ cond (x && y) (after (a .held) (a .events)) (after (kept b) [])
+      go true true = refl
+      go true false = refl
+      go false y = refl
+
+-- WHAT IS LEFT TO BE DONE, by whether the payload is taken
+module _ (t : ℕ) (p : List ℕ) (v : Course) (cs : List ℕ) (h : Held) where
+  abbrev left : Held
+  left = cond (v .keep) h (droppedRoom (v .room) h)
+
+  pub left-out : v .take ≡ false → coursed t p v cs h ≡ quiet left cs
+  left-out e = rw e
+
+  pub taken-in : v .take ≡ true
+      → coursed t p v cs h ≡ (let a = sectionsTaken t (v .room) (pidOf p) (unitStart p) (payloadOf p) left in record { held = a .held; counters = cs; events = a .events })
+  taken-in e = rw e
+
+-- the same after a step's events es
+module _ (x : Held → Step) (t : ℕ) (p : List ℕ) (c : Core) (table : List ℕ) (v : Course) (before : List ℕ) (n : ℕ) (mid : List ℕ) where
+  pub leads : (es : List Event) → v .n ≡ n + length es → mid ≡ eventsLaid before n es → v .n ≤ n + 2 → (v .take ≡ true → (v .room < roomCount) × (v .n ≤ n + 1))
+      → ((m : List ℕ) → also es (coursed t p v table (held c m)) ≡ x (held c m)) → Leads x t p c table v before n mid
+  leads es ei el few room same =
+      record { few = few; room = room; numbers = ap length el ∙ laid-length _ _ _ _ _; done = λ m d left after r done. go m d left after r (v .take) refl done }
+    where
+      go : (m : List ℕ) (d : Core) (left after : List ℕ) (r : ℕ) (b : Bool) → v .take ≡ b
+          → Done (coursed t p v table (held c m)) 62 d table left mid (v .n) after r → Done (x (held c m)) 63 d table left before n after r
+      go m d left after r true e done =
+          done-as (same m) (done-also (coursed t p v table (held c m)) es 1 62 d table left before n mid (v .n) after r ei el (room e .1) done)
+      go m d left after r false e done =
+          let none : coursed t p v table (held c m) .events ≡ [] = rw e in
+          done-as (same m) (done-also (coursed t p v table (held c m)) es 2 61 d table left before n mid (v .n) after r ei el few (record {
+            core = done .core;
+            counters = done .counters;
+            memory = done .memory;
+            next = done .next;
+            laid = done .laid;
+            few = omega (arith, done .next ∙ ap (λ (es : List Event). v .n + length es) none);
+          }))
+
+  -- a step that goes on with another
+  pub leads-on : (y : Held → Step) → ((m : List ℕ) → y (held c m) ≡ x (held c m)) → Leads y t p c table v before n mid → Leads x t p c table v before n mid
+  leads-on y same l =
+      record { few = l .few; room = l .room; numbers = l .numbers; done = λ m d left after r done. done-as (same m) (l .done m d left after r done) }
+
+-- the core after step 4
+pub kept-held : (b : Bool) (c : Core) (m : List ℕ) (r : ℕ)
     → held (cond b c (withHalf (set (c .half) r 0) c)) m ≡ cond b (held c m) (droppedRoom r (held c m))
 kept-held true c m r = refl
 kept-held false c m r = refl
 
+-- STEP 4, where its verdict is j
 abbrev pub continuityEvents : ℕ → ℕ → Bool → List Event
 continuityEvents t pid event = faultEvents t pid (cond event (continuityError ∷ []) [])
 
-module _ (t : ℕ) (p cs : List ℕ) (c : Core) (m : List ℕ) (j : Counted) (k : Core) where
-  abbrev table : List ℕ
-  table = set cs (pidOf p) (j .byte)
+module _ (t : ℕ) (p cs : List ℕ) (c : Core) (j : Counted) (verdict : j ≡ counted p cs) (m : List ℕ) where
+  abbrev counterRoom : ℕ
+  counterRoom = roomFor c (pidOf p)
 
-  pub counter-done : (before : List ℕ) (n : ℕ) (mid : List ℕ) (i : ℕ) (d : Core) (left after : List ℕ) (r : ℕ)
-      → j ≡ counted p cs → k ≡ cond (j .keep) c (withHalf (set (c .half) (roomFor c (pidOf p)) 0) c)
-      → i ≡ n + length (continuityEvents t (pidOf p) (j .event)) → mid ≡ eventsLaid before n (continuityEvents t (pidOf p) (j .event)) → i ≤ n + 1
-      → Done (step5 t p (j .take) table (held k m)) 62 d table left mid i after r
-      → Done (step4 t p cs (held c m)) 63 d table left before n after r
-  counter-done before n mid i d left after r ej ek ei el few done =
-      done-as same (done-also (step5 t p (j .take) table (held k m)) (continuityEvents t (pidOf p) (j .event)) 1 62 d table left before n mid i after r ei el few done)
-    where
-      room : ℕ
-      room = roomFor c (pidOf p)
+  abbrev counterTable : List ℕ
+  counterTable = set cs (pidOf p) (j .byte)
 
-      from : Counted → Held → Step
-      from j g = also (continuityEvents t (pidOf p) (j .event)) (step5 t p (j .take) (set cs (pidOf p) (j .byte)) g)
+  abbrev from : Counted → Step
+  from j = also (continuityEvents t (pidOf p) (j .event)) (step5 t p (j .take) (set cs (pidOf p) (j .byte)) (cond (j .keep) (held c m) (droppedRoom counterRoom (held c m))))
 
-      same : from j (held k m) ≡ step4 t p cs (held c m)
-      same =
-          ap (λ k. from j (held k m)) ek
-          ∙ ap (from j) (kept-held (j .keep) c m room)
-          ∙ ap (λ j. from j (cond (j .keep) (held c m) (droppedRoom room (held c m)))) ej
+  pub counter-scrambled : scrambledBits p ≡ true
+      → also (continuityEvents t (pidOf p) (j .event) ++ scramblingEvents t c (pidOf p)) (quiet (droppedRoom counterRoom (held c m)) counterTable) ≡ step4 t p cs (held c m)
+  counter-scrambled e =
+      ap (λ es. record { held = droppedRoom counterRoom (held c m); counters = counterTable; events = es }) (append-nil (continuityEvents t (pidOf p) (j .event) ++ scramblingEvents t c (pidOf p)))
+      ∙ ap (also (continuityEvents t (pidOf p) (j .event))) (sym (scrambled-ends t p counterTable c m (j .take) (j .keep) e))
+      ∙ ap from verdict
+
+  pub counter-clear : (i : ℕ) → scrambledBits p ≡ false
+      → also (continuityEvents t (pidOf p) (j .event))
+      (coursed t p (record { n = i; room = counterRoom; keep = j .keep; take = j .take && ltb counterRoom roomCount }) counterTable (held c m)) ≡ step4 t p cs (held c m)
+  counter-clear i e = ap (also (continuityEvents t (pidOf p) (j .event))) (sym (clear-ends t p counterTable c m (j .take) (j .keep) i e)) ∙ ap from verdict
 
 -- STEP 1
 pub lost-is : (right : Bool) (c : Core) → c .lost ≡ true → syncedOf right c ≡ whileLost right c
@@ -138,9 +204,9 @@ pub in-sync-is : (right : Bool) (c : Core) → c .lost ≡ false → syncedOf ri
 in-sync-is right c e = ap (λ b. cond b (whileLost right c) (inSync right c)) e
 
 pub caught-as : {y z : Synced} {t pid : ℕ} {c : Core} {on : Bool} {before : List ℕ} {n : ℕ} {after : List ℕ} {r : ℕ} → y ≡ z
-    → Caught y t pid c on before n after r → Caught z t pid c on before n after r
+    → CaughtAs y t pid c on before n after r → CaughtAs z t pid c on before n after r
 caught-as {t = t} {pid = pid} {c = c} {on = on} {before = before} {n = n} {after = after} {r = r} e d =
-    subst (λ y. Caught y t pid c on before n after r) e d
+    subst (λ y. CaughtAs y t pid c on before n after r) e d
 
 -- while sync is lost there are no events
 pub lost-silent : (right : Bool) (c : Core) → whileLost right c .faults ≡ []
@@ -148,7 +214,7 @@ lost-silent true c = cond-either (λ (y : Synced). y .faults ≡ []) (eqb (c .ru
 lost-silent false c = refl
 
 module _ (t : ℕ) (p cs : List ℕ) (c : Core) (m : List ℕ) (d : Core) (on : Bool) (before : List ℕ) (n : ℕ) (mid : List ℕ) (i : ℕ)
-    (caught : Caught (syncedOf (rightSync p) c) t (pidOf p) d on before n mid i) where
+    (caught : CaughtAs (syncedOf (rightSync p) c) t (pidOf p) d on before n mid i) where
   abbrev synced : Synced
   synced = syncedOf (rightSync p) c
 

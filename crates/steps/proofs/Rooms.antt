@@ -19,7 +19,7 @@ use Rattle.calls.specs.Sound.{roomSound, roomsFrom, roomsSound}
 use Rattle.calls.specs.Sync.{Synced, withSync, lostNow, inSync, whileLost, syncedOf}
 
 -- where sections of a PID are built is a matter of the list alone
-room-kept : (ns : List ℕ) (c : Core) (q : ℕ) → roomFor (withHalf ns c) q ≡ roomFor c q
+pub room-kept : (ns : List ℕ) (c : Core) (q : ℕ) → roomFor (withHalf ns c) q ≡ roomFor c q
 unfolding roomFor
 room-kept ns c q = refl
 

@@ -4,21 +4,22 @@ use calls::Core;
 use header::Header;
 use watches::Entry;
 ghost use mathlib.Core.Path.{_≡_};
-ghost use mathlib.Core.Bool.{cond};
+ghost use mathlib.Core.Bool.{true, cond};
 ghost use mathlib.Core.List.{List, [], _∷_};
 ghost use Prim.Native.Nat.{ℕ, _+_, _<_, _≤_};
 ghost use lib.ListN.{length, set, take};
 ghost use Rattle.events.specs.Events.{eventsLaid};
 ghost use Rattle.events.specs.Faults.{continuityError};
 ghost use Rattle.watches.specs.Tables.{fixedTables};
-ghost use Rattle.header.specs.Header.{pidOf, headerOf};
+ghost use Rattle.header.specs.Header.{headerOf};
+ghost use Rattle.sections.specs.Rooms.{roomCount};
 ghost use Rattle.programmes.specs.Listing.{mostListed};
 ghost use Rattle.programmes.specs.Places.{isListed};
 ghost use Rattle.calls.specs.Cores.{fixedRoom, listRoom, roomFor, withHalf};
 ghost use Rattle.calls.specs.Sync.{syncedOf, inSync, whileLost};
-ghost use Rattle.calls.specs.Steps.{scramblingEvents, step1, step2, step4, step5};
+ghost use Rattle.calls.specs.Steps.{scramblingEvents, step1, step2, step4};
 ghost use Rattle.payloads.specs.Taking.{held};
-ghost use Rattle.steps.specs.Judging.{Ready, Judgeable, Done, faultEvents, Caught};
+ghost use Rattle.steps.specs.Judging.{Ready, Judgeable, Done, faultEvents, CaughtAs, resynced, coursed, Leads};
 
 // The core after a packet, and the next place for an event.
 pub struct Stepped {
@@ -26,11 +27,23 @@ pub struct Stepped {
     pub n: usize,
 }
 
-// The core after step 1, the next place for an event, and whether the packet is judged further.
-struct Synced {
-    core: Core,
+// What step 1 leaves of sync, whether all half-built sections are dropped, the next place for an event, and whether
+// the packet is judged further.
+struct Caught {
+    lost: bool,
+    run: u8,
+    dropped: bool,
     n: usize,
     further: bool,
+}
+
+// What steps 2 to 5 leave to be done: the next place for an event, the room where sections of the PID are built, or 21,
+// whether what is half-built there is kept, and whether the payload is taken.
+struct Course {
+    n: usize,
+    room: usize,
+    keep: bool,
+    take: bool,
 }
 
 const SYNC_BYTE: u8 = 0x47;
@@ -156,56 +169,6 @@ fn judge_scrambled(core: Core, time: u64, pid: u16, numbers: &mut [u64], n: usiz
     n
 }
 
-// Step 5, and the payload: the part of the packet from its place on is handed to section building, where
-// sections of the PID are built. The counter table stays as step 4 left it, whatever it is.
-fn judge_payload(
-    core: Core,
-    time: u64,
-    packet: &[u8],
-    h: Header,
-    room: usize,
-    take: bool,
-    memory: &mut [u8; 24576],
-    numbers: &mut [u64],
-    n: usize,
-) -> Stepped
-    requires { ⌜ Ready core (now memory) (now packet) (now numbers) n 62 ⌝ }
-    requires { ⌜ (h ≡ headerOf (now packet)) × (room ≡ roomFor core (pidOf (now packet))) ⌝ }
-    ensures { λ r. ⌜ ((cs : List ℕ) → Done (step5 time (now (packet .entry)) take cs (held core (now (memory .entry)))) 62
-        (r .core) cs (now (memory .exit)) (now (numbers .entry)) n (now (numbers .exit)) (r .n)) ⌝ }
-{
-    if h.scrambled {
-        let next = judge_scrambled(core, time, h.pid, numbers, n);
-        return Stepped {
-            core: keep_room(core, room, false),
-            n: next,
-        };
-    }
-    if !take {
-        return Stepped { core: core, n: n };
-    }
-    if ROOM_COUNT <= room {
-        return Stepped { core: core, n: n };
-    }
-    let at = h.payload;
-    let taken = payloads::take_payload(
-        core,
-        memory,
-        room,
-        h.pid,
-        h.start,
-        &packet[at..],
-        time,
-        numbers,
-        n,
-    );
-    let after = taken.core;
-    Stepped {
-        core: after,
-        n: taken.n,
-    }
-}
-
 // The event of step 4, if there is one.
 fn judge_continuity(event: bool, time: u64, pid: u16, numbers: &mut [u64], n: usize) -> usize
     requires { ⌜ (n < 96) × (384 ≤ length (now numbers)) ⌝ }
@@ -219,38 +182,39 @@ fn judge_continuity(event: bool, time: u64, pid: u16, numbers: &mut [u64], n: us
     n
 }
 
-// Step 4, and what follows it.
+// Steps 4 and 5.
 fn judge_counter(
     core: Core,
     time: u64,
     packet: &[u8],
     h: Header,
     counters: &mut [u8],
-    memory: &mut [u8; 24576],
     numbers: &mut [u64],
     n: usize,
-) -> Stepped
-    requires { ⌜ Ready core (now memory) (now packet) (now numbers) n 63 ⌝ }
+) -> Course
+    requires { ⌜ (core .count ≤ mostListed) × (n + 63 ≤ 96) × (384 ≤ length (now numbers)) ⌝ }
     requires { ⌜ (h ≡ headerOf (now packet)) × (h .pid < length (now counters)) ⌝ }
-    ensures { λ r. ⌜ Done (step4 time (now (packet .entry)) (now (counters .entry)) (held core (now (memory .entry)))) 63
-        (r .core) (now (counters .exit)) (now (memory .exit)) (now (numbers .entry)) n (now (numbers .exit)) (r .n) ⌝ }
+    ensures { λ v. ⌜ Leads (step4 time (now (packet .entry)) (now (counters .entry))) time (now (packet .entry)) core (now (counters .exit)) v (now (numbers .entry)) n (now (numbers .exit)) ⌝ }
 {
     let pid = h.pid as usize;
     let j = continuity::judge(counters[pid], h);
     counters[pid] = j.byte;
     let room = room_for(core, h.pid);
     let next = judge_continuity(j.event, time, h.pid, numbers, n);
-    judge_payload(
-        keep_room(core, room, j.keep),
-        time,
-        packet,
-        h,
-        room,
-        j.take,
-        memory,
-        numbers,
-        next,
-    )
+    if h.scrambled {
+        return Course {
+            n: judge_scrambled(core, time, h.pid, numbers, next),
+            room: room,
+            keep: false,
+            take: false,
+        };
+    }
+    Course {
+        n: next,
+        room: room,
+        keep: j.keep,
+        take: j.take & (room < ROOM_COUNT),
+    }
 }
 
 // Steps 2 and 3, and what follows them.
@@ -260,26 +224,69 @@ fn judge_header(
     packet: &[u8],
     h: Header,
     counters: &mut [u8],
-    memory: &mut [u8; 24576],
     numbers: &mut [u64],
     n: usize,
-) -> Stepped
-    requires { ⌜ Ready core (now memory) (now packet) (now numbers) n 63 ⌝ }
+) -> Course
+    requires { ⌜ (core .count ≤ mostListed) × (n + 63 ≤ 96) × (384 ≤ length (now numbers)) ⌝ }
     requires { ⌜ (h ≡ headerOf (now packet)) × (h .pid < length (now counters)) ⌝ }
-    ensures { λ r. ⌜ Done (step2 time (now (packet .entry)) (now (counters .entry)) (held core (now (memory .entry)))) 63
-        (r .core) (now (counters .exit)) (now (memory .exit)) (now (numbers .entry)) n (now (numbers .exit)) (r .n) ⌝ }
+    ensures { λ v. ⌜ Leads (step2 time (now (packet .entry)) (now (counters .entry))) time (now (packet .entry)) core (now (counters .exit)) v (now (numbers .entry)) n (now (numbers .exit)) ⌝ }
 {
     if h.error {
-        let next = events::put(numbers, n, time, TRANSPORT_ERROR, NO_CAUSE, h.pid);
-        return Stepped {
-            core: core,
-            n: next,
+        return Course {
+            n: events::put(numbers, n, time, TRANSPORT_ERROR, NO_CAUSE, h.pid),
+            room: ROOM_COUNT,
+            keep: true,
+            take: false,
         };
     }
     if (h.pid == NULL_PID) | (h.control == 0) {
-        return Stepped { core: core, n: n };
+        return Course {
+            n: n,
+            room: ROOM_COUNT,
+            keep: true,
+            take: false,
+        };
     }
-    judge_counter(core, time, packet, h, counters, memory, numbers, n)
+    judge_counter(core, time, packet, h, counters, numbers, n)
+}
+
+// What the steps leave to be done: the part of the packet from its payload's place on is handed to section building.
+// The counter table stays as step 4 left it, whatever it is.
+fn take_course(
+    core: Core,
+    time: u64,
+    packet: &[u8],
+    h: Header,
+    v: Course,
+    memory: &mut [u8; 24576],
+    numbers: &mut [u64],
+) -> Stepped
+    requires { ⌜ Ready core (now memory) (now packet) (now numbers) (v .n) 0 ⌝ }
+    requires { ⌜ (h ≡ headerOf (now packet)) × (v .take ≡ true → (v .room < roomCount) × (v .n + 62 ≤ 96)) ⌝ }
+    ensures { λ r. ⌜ ((cs : List ℕ) → Done (coursed time (now (packet .entry)) v cs (held core (now (memory .entry)))) 62
+        (r .core) cs (now (memory .exit)) (now (numbers .entry)) (v .n) (now (numbers .exit)) (r .n)) ⌝ }
+{
+    let kept = keep_room(core, v.room, v.keep);
+    if !v.take {
+        return Stepped { core: kept, n: v.n };
+    }
+    let at = h.payload;
+    let taken = payloads::take_payload(
+        kept,
+        memory,
+        v.room,
+        h.pid,
+        h.start,
+        &packet[at..],
+        time,
+        numbers,
+        v.n,
+    );
+    let after = taken.core;
+    Stepped {
+        core: after,
+        n: taken.n,
+    }
 }
 
 // Step 1 in sync.
@@ -290,75 +297,74 @@ fn judge_in_sync(
     pid: u16,
     numbers: &mut [u64],
     n: usize,
-) -> Synced
+) -> Caught
     requires { ⌜ (n + 2 ≤ 96) × (384 ≤ length (now numbers)) ⌝ }
-    ensures { λ r. ⌜ Caught (inSync right core) time pid (r .core) (r .further) (now (numbers .entry)) n (now (numbers .exit)) (r .n) ⌝ }
+    ensures { λ r. ⌜ CaughtAs (inSync right core) time pid (resynced r core) (r .further) (now (numbers .entry)) n (now (numbers .exit)) (r .n) ⌝ }
 {
-    let mut after = core;
     if right {
-        after.run = 0;
-        after.lost = false;
-        return Synced {
-            core: after,
+        return Caught {
+            lost: false,
+            run: 0,
+            dropped: false,
             n: n,
             further: true,
         };
     }
     let next = events::put(numbers, n, time, SYNC_BYTE_ERROR, NO_CAUSE, pid);
     if core.run == 1 {
-        after.run = 0;
-        after.lost = true;
-        after.half = [0; 21];
-        return Synced {
-            core: after,
+        return Caught {
+            lost: true,
+            run: 0,
+            dropped: true,
             n: events::put(numbers, next, time, SYNC_LOSS, NO_CAUSE, pid),
             further: false,
         };
     }
-    after.run = 1;
-    after.lost = false;
-    Synced {
-        core: after,
+    Caught {
+        lost: false,
+        run: 1,
+        dropped: false,
         n: next,
         further: false,
     }
 }
 
 // Step 1 while sync is lost: no events.
-fn judge_lost(core: Core, right: bool, n: usize) -> Synced
+fn judge_lost(core: Core, right: bool, n: usize) -> Caught
     requires { ⌜ core .run ≤ 4 ⌝ }
-    ensures { λ r. ⌜ (r .core ≡ whileLost right core .core) × (r .further ≡ whileLost right core .further) × (r .n ≡ n) ⌝ }
+    ensures { λ r. ⌜ (resynced r core ≡ whileLost right core .core) × (r .further ≡ whileLost right core .further) × (r .n ≡ n) ⌝ }
 {
-    let mut after = core;
-    after.lost = true;
-    after.run = 0;
     if !right {
-        return Synced {
-            core: after,
+        return Caught {
+            lost: true,
+            run: 0,
+            dropped: false,
             n: n,
             further: false,
         };
     }
     if core.run == 4 {
-        after.lost = false;
-        return Synced {
-            core: after,
+        return Caught {
+            lost: false,
+            run: 0,
+            dropped: false,
             n: n,
             further: true,
         };
     }
-    after.run = core.run + 1;
-    Synced {
-        core: after,
+    Caught {
+        lost: true,
+        run: core.run + 1,
+        dropped: false,
         n: n,
         further: false,
     }
 }
 
 // Step 1.
-fn judge_sync(core: Core, right: bool, time: u64, pid: u16, numbers: &mut [u64], n: usize) -> Synced
+fn judge_sync(core: Core, right: bool, time: u64, pid: u16, numbers: &mut [u64], n: usize) -> Caught
     requires { ⌜ (n + 2 ≤ 96) × (384 ≤ length (now numbers)) × (core .run ≤ 4) ⌝ }
-    ensures { λ r. ⌜ Caught (syncedOf right core) time pid (r .core) (r .further) (now (numbers .entry)) n (now (numbers .exit)) (r .n) ⌝ }
+    ensures { λ r. ⌜ CaughtAs (syncedOf right core) time pid (resynced r core) (r .further) (now (numbers .entry)) n (now (numbers .exit)) (r .n) ⌝ }
 {
     if core.lost {
         return judge_lost(core, right, n);
@@ -366,7 +372,22 @@ fn judge_sync(core: Core, right: bool, time: u64, pid: u16, numbers: &mut [u64],
     judge_in_sync(core, right, time, pid, numbers, n)
 }
 
-// A packet at a time: steps 1 to 5. Its events are laid from the place n on.
+// The core with sync as step 1 leaves it.
+fn resync(core: Core, y: Caught) -> Core
+    ensures { λ r. ⌜ r ≡ resynced y core ⌝ }
+{
+    let mut after = core;
+    after.lost = y.lost;
+    after.run = y.run;
+    if y.dropped {
+        after.half = [0; 21];
+        return after;
+    }
+    after
+}
+
+// A packet at a time: steps 1 to 5. Its events are laid from the place n on. Only the payload needs the whole core: what
+// comes before it says in a few words what is left to be done.
 pub fn judge_packet(
     core: Core,
     time: u64,
@@ -383,9 +404,10 @@ pub fn judge_packet(
     let h = header::read(packet);
     let right = packet[0] == SYNC_BYTE;
     let y = judge_sync(core, right, time, h.pid, numbers, n);
-    let synced = y.core;
+    let synced = resync(core, y);
     if y.further {
-        return judge_header(synced, time, packet, h, counters, memory, numbers, y.n);
+        let v = judge_header(synced, time, packet, h, counters, numbers, y.n);
+        return take_course(synced, time, packet, h, v, memory, numbers);
     }
     Stepped {
         core: synced,

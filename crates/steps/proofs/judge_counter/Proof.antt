@@ -1,14 +1,22 @@
 -- `steps::judge_counter` meets its contract. Assumes nothing.
 use borrow.Author.Needs.{needs}
-use mathlib.Core.Path.{sym, ap, _∙_}
+use mathlib.Core.Path.{_≡_, refl, sym, ap, _∙_}
+use mathlib.Core.Bool.{Bool, true, cond, true≢false}
+use mathlib.Core.List.{List, _++_, append-nil}
+use Prim.Native.Nat.{ℕ}
 use native.Mathlib.Omega.{arith}
-use lib.ListN.{length}
+use borrow.Author.Tests.{ltb-true}
 use denote.Ref.{now}
-use Rattle.lists.proofs.Laying.{laid-length}
-use Rattle.header.specs.Header.{headerOf}
+use Rattle.lists.proofs.Tests.{and-right}
+use Rattle.lists.proofs.Laying.{laid-turn}
+use Rattle.events.specs.declared.Event.{Event}
+use Rattle.events.specs.Events.{numbersOf}
+use Rattle.header.specs.Header.{headerOf, pidOf}
 use Rattle.header.proofs.Payload.{counter-small}
-use Rattle.steps.proofs.Rooms.{kept-count, kept-room, kept-sound}
-use Rattle.steps.proofs.Doing.{counter-done, fields}
+use Rattle.calls.specs.Cores.{Held}
+use Rattle.calls.specs.Steps.{Step, also, step5, scramblingEvents}
+use Rattle.payloads.specs.Taking.{held}
+use Rattle.steps.proofs.Doing.{fields, leads, counter-scrambled, counter-clear}
 use Rattle.steps.proofs.judge_counter.Statement.{statement}
 use Rattle.steps.proofs.judge_counter.Tie as tie
 
@@ -33,30 +41,8 @@ room-for-requires c κs = search needs
 judge-continuity-requires : tie.Need-judge-continuity-requires
 judge-continuity-requires c κs = search needs
 
-keep-room-requires : tie.Need-keep-room-requires
-keep-room-requires c κs = search needs
-
-judge-payload-requires : tie.Need-judge-payload-requires
-judge-payload-requires c κs =
-    let start = c .before .before .before .before .before .before .before .before .before .before .before .before .before .before in
-    let judge = c .before .before .before .before .before .before .before .before .judge in
-    let room-for = c .before .before .before .before .before .before .before .room-for in
-    let judge-continuity = c .before .before .before .before .before .judge-continuity in
-    let keep-room = c .before .before .keep-room in
-    let f = fields (start .args .h) (now (start .args .packet)) (start .pre .1 .0) in (
-      record {
-        packet = start .pre .0 .packet;
-        whole = start .pre .0 .whole;
-        listed = rw (keep-room .ensures, kept-count (judge .result .keep) (start .args .core) (room-for .result)) (start .pre .0 .listed);
-        sound = rw (keep-room .ensures) (kept-sound (judge .result .keep) (start .args .core) (room-for .result) (now (start .args .memory)) (start .pre .0 .sound));
-        places = omega (arith, start .pre .0 .places, judge-continuity .ensures .2);
-        numbers = omega (arith, start .pre .0 .numbers, ap length (judge-continuity .ensures .1) ∙ laid-length _ _ _ _ _);
-      },
-      (
-        start .pre .1 .0,
-        rw (keep-room .ensures, kept-room (judge .result .keep) (start .args .core) (room-for .result), sym (f .pid)) (room-for .ensures),
-      ),
-    )
+judge-scrambled-requires : tie.Need-judge-scrambled-requires
+judge-scrambled-requires c κs = search needs
 
 same-length : tie.Need-same-length
 same-length c = search needs
@@ -67,18 +53,44 @@ same-length-2 c = search needs
 returns : tie.Need-returns
 unfolding headerOf
 returns c =
-    let start = c .before .before .before .before .before .before .before .before .before .before .before .before .before .before .before .before .before in
-    let judge = c .before .before .before .before .before .before .before .before .before .before .before .judge in
-    let room-for = c .before .before .before .before .before .before .before .before .before .before .room-for in
-    let judge-continuity = c .before .before .before .before .before .before .before .before .judge-continuity in
-    let keep-room = c .before .before .before .before .before .keep-room in
-    let judge-payload = c .before .before .judge-payload in
+    let start = c .before .before .before .before .before .before .before .before .before .before .before .before .before .before .before .before in
+    let judge = c .before .before .before .before .before .before .before .before .before .before .judge in
+    let room-for = c .before .before .before .before .before .before .before .before .before .room-for in
+    let judge-continuity = c .before .before .before .before .before .before .before .judge-continuity in
+    let if1 = c .before .before .before .before .if1 in
+    let judge-scrambled = c .before .before .judge-scrambled in
     let f = fields (start .args .h) (now (start .args .packet)) (start .pre .1 .0) in
     let verdict = rw (f .pid, start .pre .1 .0) at (judge .ensures) in
-    let kept = rw (room-for .ensures, f .pid) at (keep-room .ensures) in
+    let room = rw (f .pid) at (room-for .ensures) in
     let e = rw (f .pid) at (judge-continuity .ensures) in
-    rw (f .pid)
-    (counter-done (start .args .time) (now (start .args .packet)) (now (start .args .counters)) (start .args .core) (now (start .args .memory)) (judge .result) (keep-room .result) (now (start .args .numbers)) (start .args .n) _ (judge-continuity .result) (judge-payload .result .core) _ _ _ verdict kept (e .0) (e .1) (e .2) (judge-payload .ensures _))
+    let d = rw (f .pid) at (judge-scrambled .ensures) in
+    let w = laid-turn numbersOf 4 (λ e. refl) _ _ _ _ _ _ _ _ (e .0) (e .1) (d .0) (d .1) in
+    rw (f .pid, room)
+    (leads _ (start .args .time) (now (start .args .packet)) (start .args .core) _ _ _ _ _ _ (w .0) (w .1) (omega (arith, e .2, d .2)) (λ e. absurd (true≢false (sym e)))
+    (λ m. counter-scrambled (start .args .time) (now (start .args .packet)) (now (start .args .counters)) (start .args .core) (judge .result) verdict m (sym (f .scrambled) ∙ if1 .taken)))
+
+same-length-3 : tie.Need-same-length-3
+same-length-3 c = search needs
+
+same-length-4 : tie.Need-same-length-4
+same-length-4 c = search needs
+
+returns-2 : tie.Need-returns-2
+unfolding headerOf
+returns-2 c =
+    let start = c .before .before .before .before .before .before .before .before .before .before .before .before .before in
+    let judge = c .before .before .before .before .before .before .before .judge in
+    let room-for = c .before .before .before .before .before .before .room-for in
+    let judge-continuity = c .before .before .before .before .judge-continuity in
+    let if1 = c .before .if1 in
+    let f = fields (start .args .h) (now (start .args .packet)) (start .pre .1 .0) in
+    let verdict = rw (f .pid, start .pre .1 .0) at (judge .ensures) in
+    let room = rw (f .pid) at (room-for .ensures) in
+    let e = rw (f .pid) at (judge-continuity .ensures) in
+    rw (f .pid, room)
+    (leads _ (start .args .time) (now (start .args .packet)) (start .args .core) _ _ _ _ _ _ (e .0) (e .1) (omega (arith, e .2))
+    (λ t. (ltb-true _ _ (and-right (judge .result .take) _ t), e .2))
+    (λ m. counter-clear (start .args .time) (now (start .args .packet)) (now (start .args .counters)) (start .args .core) (judge .result) verdict m (judge-continuity .result) (sym (f .scrambled) ∙ if1 .left)))
 
 pub judge-counter-spec : {M : Type 1} → statement M
 judge-counter-spec =
@@ -90,8 +102,10 @@ judge-counter-spec =
     slice-write-counters
     room-for-requires
     judge-continuity-requires
-    keep-room-requires
-    judge-payload-requires
+    judge-scrambled-requires
     same-length
     same-length-2
-    returns)
+    returns
+    same-length-3
+    same-length-4
+    returns-2)

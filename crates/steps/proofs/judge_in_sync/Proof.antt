@@ -24,9 +24,9 @@ same-length c = search needs
 returns-2 : tie.Need-returns-2
 returns-2 c =
     let put2 = c .before .before .put2 in
-    let if2 = c .before .before .before .before .before .if2 in
-    let put = c .before .before .before .before .before .before .before .before .before .put in
-    let if1 = c .before .before .before .before .before .before .before .before .before .before .before .if1 in
+    let if2 = c .before .before .before .before .if2 in
+    let put = c .before .before .before .before .before .before .before .before .put in
+    let if1 = c .before .before .before .before .before .before .before .before .before .before .if1 in
     let w = laid-turn numbersOf 4 (λ e. refl) _ _ _ _ _ _ _ _ (put .ensures .0) (put .ensures .1) (put2 .ensures .0) (put2 .ensures .1) in
     rw (if1 .left, eq-eqb _ _ (if2 .taken)) (record { core = refl; further = refl; next = w .0; laid = w .1; few = omega arith })
 

@@ -11,12 +11,12 @@ returns c = rw (not-true (c .before .args .right) (c .if1 .taken)) (refl, refl, 
 returns-2 : tie.Need-returns-2
 returns-2 c = rw (not-false (c .before .before .before .args .right) (c .before .before .if1 .left), eq-eqb _ _ (c .if2 .taken)) (refl, refl, refl)
 
-add-after : tie.Need-add-after
-add-after c = search needs
+add-t5 : tie.Need-add-t5
+add-t5 c = search needs
 
 returns-3 : tie.Need-returns-3
 returns-3 c =
     rw (not-false (c .before .before .before .before .args .right) (c .before .before .before .if1 .left), ne-eqb _ _ (c .before .if2 .left)) (refl, refl, refl)
 
 pub judge-lost-spec : {M : Type 1} → statement M
-judge-lost-spec = tie.close (tie.spec returns returns-2 add-after returns-3)
+judge-lost-spec = tie.close (tie.spec returns returns-2 add-t5 returns-3)
