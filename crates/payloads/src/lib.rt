@@ -270,22 +270,26 @@ fn follow(
     let mut at: usize = 0;
     while at < s.len() {
         if s[at] == STUFFING {
-            return finish(core, room, 0, n);
+            core.half[room] = 0;
+            return Taken { core: core, n: n };
         }
         let l = sections::lay(memory, room, 0, &s[at..]);
         let stage = l.stage;
         if sections::is_more(stage) {
-            return finish(core, room, l.length, n);
+            core.half[room] = l.length as u16;
+            return Taken { core: core, n: n };
         }
         let a = act(core, memory, room, pid, stage, l.length, time, numbers, n);
         core = a.core;
         n = a.n;
         if is_bad(stage) {
-            return finish(core, room, 0, n);
+            core.half[room] = 0;
+            return Taken { core: core, n: n };
         }
         at += l.taken;
     }
-    finish(core, room, 0, n)
+    core.half[room] = 0;
+    Taken { core: core, n: n }
 }
 
 // A half-built section goes on with the bytes s; those after its end are ignored.

@@ -32,16 +32,19 @@ loop-holds c =
 shared-slice-read-if1 : tie.Need-shared-slice-read-if1 Inv-loop μ-loop
 shared-slice-read-if1 c = search needs
 
-finish-requires : tie.Need-finish-requires Inv-loop μ-loop
-finish-requires c κs = search needs
+mul-core : tie.Need-mul-core Inv-loop μ-loop
+mul-core c = search needs
+
+element-write-core : tie.Need-element-write-core Inv-loop μ-loop
+element-write-core c = search needs
 
 same-length : tie.Need-same-length Inv-loop μ-loop
 same-length c = search needs
 
 returns : tie.Need-returns Inv-loop μ-loop
 returns c =
-    let loop = c .before .before .before .before .loop in
-    (stuffing-ends _ _ _ _ _ _ _ (loop .at) _ _ _ _ (loop .inv .4) _ (c .before .before .before .loop-test .taken) (c .before .if1 .taken) (c .finish .ensures), omega (arith, ap (λ (g : Taken). g .n) (c .finish .ensures)))
+    let loop = c .before .before .before .loop in
+    (stuffing-ends _ _ _ _ _ _ _ (loop .at) _ _ _ _ (loop .inv .4) _ (c .before .before .loop-test .taken) (c .if1 .taken) refl, omega arith)
 
 sub-lay : tie.Need-sub-lay Inv-loop μ-loop
 sub-lay c = search needs
@@ -61,15 +64,21 @@ lay-requires c κs =
 is-more-requires : tie.Need-is-more-requires Inv-loop μ-loop
 is-more-requires c κs = search needs
 
-finish-requires-2 : tie.Need-finish-requires-2 Inv-loop μ-loop
-finish-requires-2 c κs =
-    let start = c .before .before .before .before .before .before .before .before .before .before .before in
-    let loop = c .before .before .before .before .before .before .before .before .loop in
-    let lay = c .before .before .lay in
+cast-core : tie.Need-cast-core Inv-loop μ-loop
+cast-core c =
+    let start = c .before .before .before .before .before .before .before .before .before .before .before .before in
+    let loop = c .before .before .before .before .before .before .before .before .before .loop in
+    let lay = c .before .before .before .lay in
     let all = rest-all (now (start .args .s)) (loop .at) in
     let q : NewSection (start .args .room) (now (start .args .s)) (loop .at) (loop .core) (loop .memory) (loop .numbers) (lay .result) _
-    = record { room = start .pre .1 .0; fit = loop .inv .1; step = rw all at (lay .ensures .0); memory = rw all at (lay .ensures .1); here = c .before .before .before .before .before .before .before .loop-test .taken; table = c .before .before .before .before .before .if1 .left } in
-    (q .room, omega (arith, section-inside q))
+    = record { room = start .pre .1 .0; fit = loop .inv .1; step = rw all at (lay .ensures .0); memory = rw all at (lay .ensures .1); here = c .before .before .before .before .before .before .before .before .loop-test .taken; table = c .before .before .before .before .before .before .if1 .left } in
+    omega (arith, section-inside q)
+
+mul-core-2 : tie.Need-mul-core-2 Inv-loop μ-loop
+mul-core-2 c = search needs
+
+element-write-core-2 : tie.Need-element-write-core-2 Inv-loop μ-loop
+element-write-core-2 c = search needs
 
 same-length-2 : tie.Need-same-length-2 Inv-loop μ-loop
 same-length-2 c = search needs
@@ -82,7 +91,7 @@ returns-2 c =
     let all = rest-all (now (start .args .s)) (loop .at) in
     let q : NewSection (start .args .room) (now (start .args .s)) (loop .at) (loop .core) (loop .memory) (loop .numbers) (lay .result) _
     = record { room = start .pre .1 .0; fit = loop .inv .1; step = rw all at (lay .ensures .0); memory = rw all at (lay .ensures .1); here = c .before .before .before .before .before .before .before .before .loop-test .taken; table = c .before .before .before .before .before .before .if1 .left } in
-    (section-waits q (loop .inv .4) _ (sym (c .before .before .is-more .ensures) ∙ c .before .if2 .taken) (c .finish2 .ensures), omega (arith, ap (λ (g : Taken). g .n) (c .finish2 .ensures)))
+    (section-waits q (loop .inv .4) _ (sym (c .before .before .is-more .ensures) ∙ c .before .if2 .taken) refl, omega arith)
 
 act-requires : tie.Need-act-requires Inv-loop μ-loop
 act-requires c κs =
@@ -97,26 +106,28 @@ act-requires c κs =
 is-bad-requires : tie.Need-is-bad-requires Inv-loop μ-loop
 is-bad-requires c κs = search needs
 
-finish-requires-3 : tie.Need-finish-requires-3 Inv-loop μ-loop
-finish-requires-3 c κs =
-    (c .before .before .before .before .before .before .before .before .before .before .before .before .before .before .before .before .before .before .before .pre .1 .0, omega arith)
+mul-core-3 : tie.Need-mul-core-3 Inv-loop μ-loop
+mul-core-3 c = record { fits = omega (arith, c .before .before .before .before .before .before .before .before .before .before .before .before .before .before .before .before .before .before .before .pre .1 .0) }
+
+element-write-core-3 : tie.Need-element-write-core-3 Inv-loop μ-loop
+element-write-core-3 c = c .before .before .before .before .before .before .before .before .before .before .before .before .before .before .before .before .before .before .before .pre .1 .0
 
 same-length-3 : tie.Need-same-length-3 Inv-loop μ-loop
 same-length-3 c =
-    let loop = c .before .before .before .before .before .before .before .before .before .before .before .before .before .before .before .before .before .loop in
+    let loop = c .before .before .before .before .before .before .before .before .before .before .before .before .before .before .before .before .loop in
     search needs
 
 returns-3 : tie.Need-returns-3 Inv-loop μ-loop
 returns-3 c =
-    let start = c .before .before .before .before .before .before .before .before .before .before .before .before .before .before .before .before .before .before .before .before in
-    let loop = c .before .before .before .before .before .before .before .before .before .before .before .before .before .before .before .before .before .loop in
-    let lay = c .before .before .before .before .before .before .before .before .before .before .before .lay in
+    let start = c .before .before .before .before .before .before .before .before .before .before .before .before .before .before .before .before .before .before .before in
+    let loop = c .before .before .before .before .before .before .before .before .before .before .before .before .before .before .before .before .loop in
+    let lay = c .before .before .before .before .before .before .before .before .before .before .lay in
     let all = rest-all (now (start .args .s)) (loop .at) in
     let q : NewSection (start .args .room) (now (start .args .s)) (loop .at) (loop .core) (loop .memory) (loop .numbers) (lay .result) _
-    = record { room = start .pre .1 .0; fit = loop .inv .1; step = rw all at (lay .ensures .0); memory = rw all at (lay .ensures .1); here = c .before .before .before .before .before .before .before .before .before .before .before .before .before .before .before .before .loop-test .taken; table = c .before .before .before .before .before .before .before .before .before .before .before .before .before .before .if1 .left } in
-    let act = c .before .before .before .before .before .before .act in
-    let ends = sym (c .before .before .before .before .before .before .before .before .before .before .is-more .ensures) ∙ c .before .before .before .before .before .before .before .before .before .if2 .left in
-    (section-stops q (loop .inv .4) (act .ensures .0) ends _ (sym (c .before .before .is-bad .ensures) ∙ c .before .if3 .taken) (c .finish3 .ensures), omega (arith, ap (λ (g : Taken). g .n) (c .finish3 .ensures), act .ensures .1 .1, loop .inv .2, q .here, start .pre .1))
+    = record { room = start .pre .1 .0; fit = loop .inv .1; step = rw all at (lay .ensures .0); memory = rw all at (lay .ensures .1); here = c .before .before .before .before .before .before .before .before .before .before .before .before .before .before .before .loop-test .taken; table = c .before .before .before .before .before .before .before .before .before .before .before .before .before .if1 .left } in
+    let act = c .before .before .before .before .before .act in
+    let ends = sym (c .before .before .before .before .before .before .before .before .before .is-more .ensures) ∙ c .before .before .before .before .before .before .before .before .if2 .left in
+    (section-stops q (loop .inv .4) (act .ensures .0) ends _ (sym (c .before .is-bad .ensures) ∙ c .if3 .taken) refl, omega (arith, act .ensures .1 .1, loop .inv .2, q .here, start .pre .1))
 
 add-at : tie.Need-add-at Inv-loop μ-loop
 add-at c =
@@ -153,16 +164,19 @@ loop-again c =
       section-follows q (loop .inv .4) (act .ensures .0) ends (sym (c .before .before .is-bad .ensures) ∙ c .before .if3 .left),
     )
 
-finish-requires-4 : tie.Need-finish-requires-4 Inv-loop μ-loop
-finish-requires-4 c κs = search needs
+mul-core-4 : tie.Need-mul-core-4 Inv-loop μ-loop
+mul-core-4 c = search needs
+
+element-write-core-4 : tie.Need-element-write-core-4 Inv-loop μ-loop
+element-write-core-4 c = search needs
 
 same-length-4 : tie.Need-same-length-4 Inv-loop μ-loop
 same-length-4 c = search needs
 
 returns-4 : tie.Need-returns-4 Inv-loop μ-loop
 returns-4 c =
-    let loop = c .before .before .loop in
-    (bytes-end _ _ _ _ _ _ _ (loop .at) _ _ _ _ (loop .inv .4) _ (c .before .loop-test .left) (c .finish4 .ensures), omega (arith, ap (λ (g : Taken). g .n) (c .finish4 .ensures)))
+    let loop = c .before .loop in
+    (bytes-end _ _ _ _ _ _ _ (loop .at) _ _ _ _ (loop .inv .4) _ (c .loop-test .left) refl, omega arith)
 
 pub follow-spec : {M : Type 1} → statement M
 follow-spec =
@@ -172,7 +186,8 @@ follow-spec =
     μ-loop
     loop-holds
     shared-slice-read-if1
-    finish-requires
+    mul-core
+    element-write-core
     same-length
     returns
     sub-lay
@@ -180,17 +195,21 @@ follow-spec =
     part-lay-end
     lay-requires
     is-more-requires
-    finish-requires-2
+    cast-core
+    mul-core-2
+    element-write-core-2
     same-length-2
     returns-2
     act-requires
     is-bad-requires
-    finish-requires-3
+    mul-core-3
+    element-write-core-3
     same-length-3
     returns-3
     add-at
     loop-less
     loop-again
-    finish-requires-4
+    mul-core-4
+    element-write-core-4
     same-length-4
     returns-4)
