@@ -4,6 +4,7 @@ use calls::Core;
 use calls::State;
 use watches::Entry;
 ghost use mathlib.Core.Path.{_≡_};
+ghost use Prim.Native.Nat.{_<_, _≤_};
 ghost use mathlib.Core.List.{[], _∷_, map};
 ghost use lib.ListN.{length};
 ghost use lib.Seq.{sets};
@@ -87,7 +88,31 @@ fn halves_in(words: &[u16]) -> [u16; 21]
     out
 }
 
-// The sixteen entries.
+// The entry at a place.
+fn entry_at(times: &[u64], words: &[u16], k: usize) -> Entry
+    requires { ⌜ (length (now times) ≡ timeCount) × (length (now words) ≡ wordCount) × (k < 16) ⌝ }
+    ensures { λ r. ⌜ r ≡ entryIn (now (times .entry)) (now (words .entry)) k ⌝ }
+{
+    Entry {
+        number: words[k],
+        pid: words[PIDS + k],
+        since: times[SINCES + k],
+    }
+}
+
+// How many of the entries are listed.
+fn listed_in(words: &[u16]) -> usize
+    requires { ⌜ length (now words) ≡ wordCount ⌝ }
+    ensures { λ r. ⌜ r ≤ 16 ⌝ }
+{
+    if words[COUNT] <= 16 {
+        return size_of(words[COUNT]);
+    }
+    16
+}
+
+// The sixteen entries, the listed ones first: a loop whose length the compiler does not know keeps the
+// entries together in memory.
 fn entries_in(times: &[u64], words: &[u16]) -> [Entry; 16]
     requires { ⌜ (length (now times) ≡ timeCount) × (length (now words) ≡ wordCount) ⌝ }
     ensures { λ r. ⌜ r ≡ tabled (entryIn (now (times .entry)) (now (words .entry))) 0 16 ⌝ }
@@ -97,13 +122,14 @@ fn entries_in(times: &[u64], words: &[u16]) -> [Entry; 16]
         pid: 0,
         since: 0,
     }; 16];
+    let n = listed_in(words);
     let mut k: usize = 0;
+    while k < n {
+        out[k] = entry_at(times, words, k);
+        k += 1;
+    }
     while k < 16 {
-        out[k] = Entry {
-            number: words[k],
-            pid: words[PIDS + k],
-            since: times[SINCES + k],
-        };
+        out[k] = entry_at(times, words, k);
         k += 1;
     }
     out
