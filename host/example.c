@@ -19,6 +19,9 @@ static const uint64_t packet_ticks = UINT64_C(188) * 8 * 27000000;
 
 static songpigeon_card card;
 
+/* as much of the stream as is read at once: 348 packets, just below 64 KiB */
+static uint8_t block[348 * SONGPIGEON_PACKET];
+
 static int print(songpigeon_reply reply) {
     if (reply.refusal != SONGPIGEON_ACCEPTED) {
         printf("refused\t%" PRIu32 "\n", reply.refusal);
@@ -32,16 +35,19 @@ static int print(songpigeon_reply reply) {
 }
 
 static int judge(FILE *stream, uint64_t rate) {
-    uint8_t packet[SONGPIGEON_PACKET];
     uint64_t time = 0;
     uint64_t over = 0; /* what the whole ticks so far leave over, in parts of `rate` */
-    size_t length;
+    size_t filled;
     int status = print(songpigeon_card_open(&card, time));
-    while (status == READ_TO_ITS_END && (length = fread(packet, 1, sizeof packet, stream)) > 0) {
-        over += packet_ticks % rate;
-        time += packet_ticks / rate + over / rate;
-        over %= rate;
-        status = print(songpigeon_card_packet(&card, time, packet, length));
+    while (status == READ_TO_ITS_END && (filled = fread(block, 1, sizeof block, stream)) > 0) {
+        for (size_t at = 0; status == READ_TO_ITS_END && at < filled; at += SONGPIGEON_PACKET) {
+            size_t left = filled - at; /* less than a packet only at the end of a stream that was cut off */
+            size_t length = left < SONGPIGEON_PACKET ? left : SONGPIGEON_PACKET;
+            over += packet_ticks % rate;
+            time += packet_ticks / rate + over / rate;
+            over %= rate;
+            status = print(songpigeon_card_packet(&card, time, block + at, length));
+        }
     }
     if (ferror(stream)) {
         perror("reading failed");

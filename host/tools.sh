@@ -1,12 +1,17 @@
 #!/usr/bin/env bash
 # Installs what the host side is built with, from Debian, where it is missing: cargo, rustc and gcc, or only
-# those named (a package has the name of its command, but that of man is man-db). Does nothing where all are there.
+# those named (a package has the name of its command, but that of man is man-db, and that of tsreport tstools).
+# Does nothing where all are there.
 set -uo pipefail
 [ $# -gt 0 ] || set -- cargo rustc gcc
 missing=()
 for tool; do
     command -v "$tool" > /dev/null && continue
-    if [ "$tool" = man ]; then missing+=(man-db); else missing+=("$tool"); fi
+    case $tool in
+        man) missing+=(man-db) ;;
+        tsreport) missing+=(tstools) ;;
+        *) missing+=("$tool") ;;
+    esac
 done
 [ ${#missing[@]} -eq 0 ] && exit 0
 echo "installing ${missing[*]}"

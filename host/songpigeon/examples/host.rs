@@ -15,6 +15,8 @@ use std::process::ExitCode;
 use std::{env, fs};
 
 const PACKET: usize = 188;
+/// As much of the stream as is read at once: just below 64 KiB.
+const BLOCK: usize = 348 * PACKET;
 /// 188 bytes at one bit a second, in ticks of 27 MHz.
 const PACKET_TICKS: u64 = 188 * 8 * 27_000_000;
 
@@ -79,7 +81,7 @@ fn judge(stream: &mut impl Read, out: &mut impl Write, rate: u64) -> io::Result<
 fn run(rate: u64) -> io::Result<Result<(), Refusal>> {
     let mut out = io::BufWriter::new(io::stdout().lock());
     writeln!(out, "time\tfault\tcause\tid")?;
-    let judged = judge(&mut io::BufReader::new(io::stdin().lock()), &mut out, rate)?;
+    let judged = judge(&mut io::BufReader::with_capacity(BLOCK, io::stdin().lock()), &mut out, rate)?;
     if let Err(refusal) = judged {
         writeln!(out, "refused\t{}", refusal.0)?;
     }
