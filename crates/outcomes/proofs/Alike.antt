@@ -16,3 +16,6 @@ places-3 p q r = ap₂ _∷_ p (places-2 q r)
 
 pub places-4 : {w w′ x x′ y y′ z z′ : List ℕ} → w ≡ w′ → x ≡ x′ → y ≡ y′ → z ≡ z′ → w ∷ x ∷ y ∷ z ∷ [] ≡ w′ ∷ x′ ∷ y′ ∷ z′ ∷ []
 places-4 p q r s = ap₂ _∷_ p (places-3 q r s)
+
+pub places-5 : {v v′ w w′ x x′ y y′ z z′ : List ℕ} → v ≡ v′ → w ≡ w′ → x ≡ x′ → y ≡ y′ → z ≡ z′ → v ∷ w ∷ x ∷ y ∷ z ∷ [] ≡ v′ ∷ w′ ∷ x′ ∷ y′ ∷ z′ ∷ []
+places-5 o p q r s = ap₂ _∷_ o (places-4 p q r s)

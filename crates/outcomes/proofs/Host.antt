@@ -33,9 +33,9 @@ use Rattle.songpigeon.proofs.songpigeon_open.Reads as open-contract
 use Rattle.songpigeon.proofs.songpigeon_packet as packet-contract
 use Rattle.songpigeon.proofs.songpigeon_clock as clock-contract
 use Rattle.outcomes.specs.Once.{OneAnswer, OneOutcome}
-use Rattle.outcomes.proofs.Alike.{both, places-2, places-3, places-4}
+use Rattle.outcomes.proofs.Alike.{both, places-2, places-3, places-5}
 
--- THE CALLS OVER RECORDS: the numbers lent, place after place, and the list
+-- THE CALLS OVER RECORDS: the memory lent, place after place, and the list
 pub record Left : Type 0 where
   pub places : List (List ℕ)
   pub events : List Event
@@ -43,38 +43,39 @@ pub record Left : Type 0 where
 left-alike : (x y : Left) → x .places ≡ y .places → x .events ≡ y .events → x ≡ y
 left-alike x y p q i = record { places = p i; events = q i }
 
--- times, words, time, packet, counters, memory, events
-abbrev pub packetLeft : (κs : Lfts 6) → AtExit packet-contract.ended κs → Left
+-- times, words, time, packet, counters, memory, numbers, events
+abbrev pub packetLeft : (κs : Lfts 7) → AtExit packet-contract.ended κs → Left
 packetLeft κs s =
     record {
-      places = now (s .0) ∷ now (s .1 .0) ∷ now (s .1 .1 .1 .1 .0) ∷ now (s .1 .1 .1 .1 .1 .0) ∷ [];
-      events = now (s .1 .1 .1 .1 .1 .1 .0);
+      places = now (s .0) ∷ now (s .1 .0) ∷ now (s .1 .1 .1 .1 .0) ∷ now (s .1 .1 .1 .1 .1 .0) ∷ now (s .1 .1 .1 .1 .1 .1 .0) ∷ [];
+      events = now (s .1 .1 .1 .1 .1 .1 .1 .0);
     }
 
-abbrev pub packetPromise : (κs : Lfts 6) → Args packet-contract.signature κs → Res packet-contract.signature κs → AtExit packet-contract.ended κs → Type 0
+abbrev pub packetPromise : (κs : Lfts 7) → Args packet-contract.signature κs → Res packet-contract.signature κs → AtExit packet-contract.ended κs → Type 0
 packetPromise κs a r s =
     PacketDone
     (packetCall (stateIn (now (a .0)) (now (a .1 .0))) (a .1 .1 .0) (now (a .1 .1 .1 .0)) (now (a .1 .1 .1 .1 .0)) (now (a .1 .1 .1 .1 .1 .0))
-    (length (now (a .1 .1 .1 .1 .1 .1 .0))))
+    (length (now (a .1 .1 .1 .1 .1 .1 .1 .0))))
     r (now (a .0)) (now (s .0)) (now (a .1 .0)) (now (s .1 .0)) (now (s .1 .1 .1 .1 .0)) (now (s .1 .1 .1 .1 .1 .0)) (now (a .1 .1 .1 .1 .1 .1 .0))
-    (now (s .1 .1 .1 .1 .1 .1 .0))
+    (now (s .1 .1 .1 .1 .1 .1 .0)) (now (a .1 .1 .1 .1 .1 .1 .1 .0)) (now (s .1 .1 .1 .1 .1 .1 .1 .0))
 
--- times, words, time, memory, events
-abbrev pub clockLeft : (κs : Lfts 4) → AtExit clock-contract.ended κs → Left
-clockLeft κs s = record { places = now (s .0) ∷ now (s .1 .0) ∷ []; events = now (s .1 .1 .1 .1 .0) }
+-- times, words, time, memory, numbers, events
+abbrev pub clockLeft : (κs : Lfts 5) → AtExit clock-contract.ended κs → Left
+clockLeft κs s = record { places = now (s .0) ∷ now (s .1 .0) ∷ now (s .1 .1 .1 .1 .0) ∷ []; events = now (s .1 .1 .1 .1 .1 .0) }
 
-abbrev pub clockPromise : (κs : Lfts 4) → Args clock-contract.signature κs → Res clock-contract.signature κs → AtExit clock-contract.ended κs → Type 0
+abbrev pub clockPromise : (κs : Lfts 5) → Args clock-contract.signature κs → Res clock-contract.signature κs → AtExit clock-contract.ended κs → Type 0
 clockPromise κs a r s =
     ClockDone
-    (clockCall (stateIn (now (a .0)) (now (a .1 .0))) (a .1 .1 .0) (now (a .1 .1 .1 .0)) (length (now (a .1 .1 .1 .1 .0))))
-    r (now (a .0)) (now (s .0)) (now (a .1 .0)) (now (s .1 .0)) (now (a .1 .1 .1 .1 .0)) (now (s .1 .1 .1 .1 .0))
+    (clockCall (stateIn (now (a .0)) (now (a .1 .0))) (a .1 .1 .0) (now (a .1 .1 .1 .0)) (length (now (a .1 .1 .1 .1 .1 .0))))
+    r (now (a .0)) (now (s .0)) (now (a .1 .0)) (now (s .1 .0)) (now (a .1 .1 .1 .1 .0)) (now (s .1 .1 .1 .1 .0)) (now (a .1 .1 .1 .1 .1 .0))
+    (now (s .1 .1 .1 .1 .1 .0))
 
 module _ {M : Type 1} (𝓤 : URA M) (H : Heap 𝓤) (A : Atoms 𝓤) (mem : Memory → SProp 𝓤) (run : Routine → Fun 𝓤) where
-  pub packet-said : (κs : Lfts 6) (a : Args packet-contract.signature κs) (r : Res packet-contract.signature κs) (s : AtExit packet-contract.ended κs)
+  pub packet-said : (κs : Lfts 7) (a : Args packet-contract.signature κs) (r : Res packet-contract.signature κs) (s : AtExit packet-contract.ended κs)
       → packet-contract.clauses 𝓤 H A mem run κs a .ensures tt r s ≡ fact 𝓤 (packetPromise κs a r s)
   packet-said κs a r s = refl
 
-  pub clock-said : (κs : Lfts 4) (a : Args clock-contract.signature κs) (r : Res clock-contract.signature κs) (s : AtExit clock-contract.ended κs)
+  pub clock-said : (κs : Lfts 5) (a : Args clock-contract.signature κs) (r : Res clock-contract.signature κs) (s : AtExit clock-contract.ended κs)
       → clock-contract.clauses 𝓤 H A mem run κs a .ensures tt r s ≡ fact 𝓤 (clockPromise κs a r s)
   clock-said κs a r s = refl
 
@@ -114,9 +115,11 @@ no-second-outcome-host =
       songpigeon-packet = λ κs a r r′ s s′ p q. (
         both (p .0) (q .0),
         left-alike (packetLeft κs s) (packetLeft κs s′)
-            (places-4 (both (p .1) (q .1)) (both (p .2) (q .2)) (both (p .3) (q .3)) (both (p .4) (q .4)))
-            (both (p .5) (q .5)),
+            (places-5 (both (p .1) (q .1)) (both (p .2) (q .2)) (both (p .3) (q .3)) (both (p .4) (q .4)) (both (p .5) (q .5)))
+            (both (p .6) (q .6)),
       );
-      songpigeon-clock = λ κs a r r′ s s′ p q.
-          (both (p .0) (q .0), left-alike (clockLeft κs s) (clockLeft κs s′) (places-2 (both (p .1) (q .1)) (both (p .2) (q .2))) (both (p .3) (q .3)));
+      songpigeon-clock = λ κs a r r′ s s′ p q. (
+        both (p .0) (q .0),
+        left-alike (clockLeft κs s) (clockLeft κs s′) (places-3 (both (p .1) (q .1)) (both (p .2) (q .2)) (both (p .3) (q .3))) (both (p .4) (q .4)),
+      );
     }

@@ -60,7 +60,6 @@ use Rattle.quiet.proofs.count_packet.Reads as count-packet
 use Rattle.quiet.proofs.memory_size.Reads as memory-size
 use Rattle.quiet.proofs.quiet_packet.Reads as quiet-packet
 use Rattle.quiet.proofs.quiet_value.Reads as quiet-value
-use Rattle.arrival.proofs.short_packet.Reads as short-packet
 use Rattle.testdata.proofs.row_of.Reads as row-of
 use Rattle.textlog.proofs.next_line.Reads as next-line
 use Rattle.lines.proofs.line_start.Reads as line-start
@@ -138,8 +137,6 @@ pub record NoSecondOutcomeInside : Type 0 where
   pub quiet-quiet-packet : (κs : _)
       → OneOutcome (quiet-packet.Post κs) (λ r. r) (λ s. now (s .0) ∷ now (s .1 .0) ∷ now (s .1 .1 .1 .1 .0) ∷ now (s .1 .1 .1 .1 .1 .0) ∷ [])
   pub quiet-quiet-value : (κs : _) → OneOutcome (quiet-value.Post κs) (λ r. r) (λ s. now (s .1 .1 .1 .0))
-  pub arrival-short-packet : (κs : _)
-      → OneOutcome (short-packet.Post κs) (λ r. r) (λ s. now (s .0) ∷ now (s .1 .0) ∷ now (s .1 .1 .1 .1 .0) ∷ now (s .1 .1 .1 .1 .1 .0) ∷ [])
   pub testdata-row-of : (κs : _) → OneAnswer (row-of.Post κs) (λ r. r)
   pub textlog-next-line : (κs : _) → OneAnswer (next-line.Post κs) (λ r. r)
   pub lines-line-start : (κs : _) → OneAnswer (line-start.Post κs) (λ r. r)
@@ -229,8 +226,6 @@ no-second-outcome-inside =
             ∙ ap (λ (quiet : Bool). quietTable quiet (now (a .1 .1 .0)) (now (a .1 .1 .1 .0))) (both (p .0) (q .0))
             ∙ sym (q .1),
       );
-      arrival-short-packet = λ κs a r r′ s s′ p q.
-          (both (p .0) (q .0), places-4 (both (p .1) (q .1)) (both (p .2) (q .2)) (both (p .3) (q .3)) (both (p .4) (q .4)));
       testdata-row-of = λ κs a r r′ s s′ p q. both p q;
       textlog-next-line = λ κs a r r′ s s′ p q. both p q;
       lines-line-start = λ κs a r r′ s s′ p q. both p q;

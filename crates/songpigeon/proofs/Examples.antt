@@ -21,7 +21,7 @@ use Rattle.songpigeon.specs.Version.{version}
 use Rattle.songpigeon.specs.Fields.{fieldBytes, fieldsIn, fieldsAfter, placesAfter, bytesAnswer, bytesMemory, laidOf}
 use Rattle.songpigeon.specs.Descriptors.{cursorAt, foundOf, valuesAfter}
 
-pub the-version : version ≡ 10000
+pub the-version : version ≡ 20000
 the-version = refl
 
 -- THE TWELVE BYTES in the order of Table 1, each field under its place, and the arrays that are lent to a reading

@@ -1,3 +1,4 @@
 pub mod Joining
 pub mod Again
+pub mod Handed
 pub mod Examples

@@ -2,14 +2,16 @@
 -- lent memory, and so the arrays stay as they were, at a refused opening too (docs/DECISIONS.md, F10).
 --
 --   OpenDone t counters r .. == an opening at t is what was done: r is its reply, and arrays and counter table are left as it says
---   PacketDone x r .. == the result x of a packet call is what was done: r is its reply, and arrays, counter table, section memory and list are left as
---                        it says; of arrays and list first as they were, then as they are
+--   PacketDone x r .. == the result x of a packet call is what was done: r is its reply, and arrays, counter table, section memory, numbers and list
+--                        are left as it says; of arrays, numbers and list first as they were, then as they are. The numbers hold the call's events,
+--                        four numbers to an event, laid from the first place on, the others as they were
 --   ClockDone x r ..  == the same of a clock call, which writes neither table nor section memory
 --   PacketLaid, ClockLaid == the same, with the events laid as numbers
 use Prim.Native.Nat.{ℕ}
 use mathlib.Core.Path.{_≡_}
 use mathlib.Core.List.{List}
 use Rattle.events.specs.declared.Event.{Event}
+use Rattle.events.specs.Events.{eventsLaid}
 use Rattle.calls.specs.Calls.{Result, openAnswer, openTable, answerOf, handedOver}
 use Rattle.engine.specs.Numbers.{Numbered}
 use Rattle.arrays.specs.declared.Reply.{Reply}
@@ -23,20 +25,22 @@ OpenDone t counters r times timesLeft words wordsLeft countersLeft =
     × (wordsLeft ≡ wordsAfter (openAnswer t counters) words)
     × (countersLeft ≡ openTable t counters)
 
-abbrev pub PacketDone : Result → Reply → (times timesLeft words wordsLeft counters memory : List ℕ) (old events : List Event) → Type 0
-PacketDone x r times timesLeft words wordsLeft counters memory old events =
+abbrev pub PacketDone : Result → Reply → (times timesLeft words wordsLeft counters memory numbers numbersLeft : List ℕ) (old events : List Event) → Type 0
+PacketDone x r times timesLeft words wordsLeft counters memory numbers numbersLeft old events =
     (r ≡ replyOf (answerOf x))
     × (timesLeft ≡ timesAfter (answerOf x) times)
     × (wordsLeft ≡ wordsAfter (answerOf x) words)
     × (counters ≡ x .counters)
     × (memory ≡ x .memory)
+    × (numbersLeft ≡ eventsLaid numbers 0 (x .events))
     × (events ≡ handedOver (x .events) old)
 
-abbrev pub ClockDone : Result → Reply → (times timesLeft words wordsLeft : List ℕ) (old events : List Event) → Type 0
-ClockDone x r times timesLeft words wordsLeft old events =
+abbrev pub ClockDone : Result → Reply → (times timesLeft words wordsLeft numbers numbersLeft : List ℕ) (old events : List Event) → Type 0
+ClockDone x r times timesLeft words wordsLeft numbers numbersLeft old events =
     (r ≡ replyOf (answerOf x))
     × (timesLeft ≡ timesAfter (answerOf x) times)
     × (wordsLeft ≡ wordsAfter (answerOf x) words)
+    × (numbersLeft ≡ eventsLaid numbers 0 (x .events))
     × (events ≡ handedOver (x .events) old)
 
 -- THE SAME OVER NUMBERS

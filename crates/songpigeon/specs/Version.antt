@@ -9,4 +9,4 @@ abbrev pub versionAt : ℕ → ℕ → ℕ → ℕ
 versionAt major minor patch = major * 10000 + minor * 100 + patch
 
 abbrev pub version : ℕ
-version = versionAt 1 0 0
+version = versionAt 2 0 0

@@ -44,7 +44,8 @@ pub extern "C" fn songpigeon_open(
     }
 }
 
-// A packet call, its events laid as numbers.
+// A packet call, its events laid as numbers. A quiet call is done on the arrays themselves (crate `quiet`); any other
+// is judged by value.
 pub fn lent_packet(
     times: &mut [u64; 22],
     words: &mut [u16; 56],
@@ -58,6 +59,10 @@ pub fn lent_packet(
     ensures { λ r. ⌜ PacketLaid (packetCall (stateIn (now (times .entry)) (now (words .entry))) time (now (packet .entry)) (now (counters .entry)) (now (memory .entry)) room)
         r (now (times .entry)) (now (times .exit)) (now (words .entry)) (now (words .exit)) (now (counters .exit)) (now (memory .exit)) (now (numbers .entry)) (now (numbers .exit)) ⌝ }
 {
+    let first = quiet::quiet_packet(times, words, time, packet, counters, memory, room);
+    if first.done {
+        return first.answer;
+    }
     let t = arrays::time_count(times);
     let w = arrays::word_count(words);
     let state = arrays::state_in(times, words);
@@ -92,8 +97,7 @@ pub fn lent_clock(
     }
 }
 
-// A packet call: the late events, then those of steps 1 to 5. Refusals 1 to 6. A short call is done on the arrays
-// themselves (crate `arrival`); any other is judged by value.
+// A packet call: the late events, then those of steps 1 to 5. Refusals 1 to 6.
 #[no_mangle]
 pub extern "C" fn songpigeon_packet(
     times: &mut [u64; 22],
@@ -102,29 +106,16 @@ pub extern "C" fn songpigeon_packet(
     packet: &[u8],
     counters: &mut [u8],
     memory: &mut [u8; 24576],
+    numbers: &mut [u64; 384],
     events: &mut [Event],
 ) -> Reply
     ensures { λ r. ⌜ PacketDone (packetCall (stateIn (now (times .entry)) (now (words .entry))) time (now (packet .entry)) (now (counters .entry)) (now (memory .entry)) (length (now (events .entry))))
-        r (now (times .entry)) (now (times .exit)) (now (words .entry)) (now (words .exit)) (now (counters .exit)) (now (memory .exit)) (now (events .entry)) (now (events .exit)) ⌝ }
+        r (now (times .entry)) (now (times .exit)) (now (words .entry)) (now (words .exit)) (now (counters .exit)) (now (memory .exit)) (now (numbers .entry)) (now (numbers .exit)) (now (events .entry)) (now (events .exit)) ⌝ }
 {
     let room = events.len();
-    let first = arrival::short_packet(times, words, time, packet, counters, memory, room);
-    if first.done {
-        return first.answer;
-    }
-    let mut numbers = [0u64; 384];
-    let out = lent_packet(
-        times,
-        words,
-        time,
-        packet,
-        counters,
-        memory,
-        room,
-        &mut numbers,
-    );
+    let out = lent_packet(times, words, time, packet, counters, memory, room, numbers);
     let n = out.n;
-    records::hand_over(&numbers, n, events);
+    records::hand_over(numbers, n, events);
     out
 }
 
@@ -135,15 +126,15 @@ pub extern "C" fn songpigeon_clock(
     words: &mut [u16; 56],
     time: u64,
     memory: &[u8; 24576],
+    numbers: &mut [u64; 384],
     events: &mut [Event],
 ) -> Reply
     ensures { λ r. ⌜ ClockDone (clockCall (stateIn (now (times .entry)) (now (words .entry))) time (now (memory .entry)) (length (now (events .entry))))
-        r (now (times .entry)) (now (times .exit)) (now (words .entry)) (now (words .exit)) (now (events .entry)) (now (events .exit)) ⌝ }
+        r (now (times .entry)) (now (times .exit)) (now (words .entry)) (now (words .exit)) (now (numbers .entry)) (now (numbers .exit)) (now (events .entry)) (now (events .exit)) ⌝ }
 {
-    let mut numbers = [0u64; 384];
     let room = events.len();
-    let out = lent_clock(times, words, time, memory, room, &mut numbers);
+    let out = lent_clock(times, words, time, memory, room, numbers);
     let n = out.n;
-    records::hand_over(&numbers, n, events);
+    records::hand_over(numbers, n, events);
     out
 }

@@ -44,5 +44,5 @@ pub struct Found {
 pub extern "C" fn songpigeon_version() -> u32
     ensures { λ r. ⌜ r ≡ version ⌝ }
 {
-    10000
+    20000
 }

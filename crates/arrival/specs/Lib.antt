@@ -1,4 +1,0 @@
-pub mod Arrival
-pub mod Growing
-pub mod Ending
-pub mod Short
