@@ -107,10 +107,12 @@ static void calls(void) {
     CHECK(is_refused(songpigeon_card_packet(&card, 13500001, packet, 187), SONGPIGEON_REFUSED_PACKET));
     CHECK(is_refused(songpigeon_card_packet(&card, 13500001, packet, 189), SONGPIGEON_REFUSED_PACKET));
     CHECK(is_refused(songpigeon_packet(card.times, card.words, 13500001, packet, SONGPIGEON_PACKET, card.counters,
-                                       SONGPIGEON_COUNTERS - 1, card.memory, card.events, SONGPIGEON_EVENTS),
+                                       SONGPIGEON_COUNTERS - 1, card.memory, card.numbers, card.events,
+                                       SONGPIGEON_EVENTS),
                      SONGPIGEON_REFUSED_COUNTERS));
     CHECK(is_refused(songpigeon_packet(card.times, card.words, 13500001, packet, SONGPIGEON_PACKET, card.counters,
-                                       SONGPIGEON_COUNTERS, card.memory, card.events, SONGPIGEON_EVENTS - 1),
+                                       SONGPIGEON_COUNTERS, card.memory, card.numbers, card.events,
+                                       SONGPIGEON_EVENTS - 1),
                      SONGPIGEON_REFUSED_EVENTS));
     CHECK(is_refused(songpigeon_card_packet(&card, latest + 1, packet, SONGPIGEON_PACKET), SONGPIGEON_REFUSED_TIME));
     CHECK(is_refused(songpigeon_card_packet(&card, 13500000, packet, SONGPIGEON_PACKET), SONGPIGEON_REFUSED_ORDER));

@@ -26,7 +26,7 @@ extern "C" {
 
 /* The version of this header, major * 10000 + minor * 100 + patch. The major one moves where lent memory or a call's shape
  * does: a host that was compiled with another one than songpigeon_version() has must not call. */
-#define SONGPIGEON_VERSION_MAJOR 1
+#define SONGPIGEON_VERSION_MAJOR 2
 #define SONGPIGEON_VERSION_MINOR 0
 #define SONGPIGEON_VERSION_PATCH 0
 #define SONGPIGEON_VERSION                                                                                             \
@@ -42,6 +42,7 @@ enum {
     SONGPIGEON_WORDS = 56, /* 16 programme numbers, 16 PIDs, 21 half-built lengths, sync lost, run, list's length */
     SONGPIGEON_COUNTERS = 8192,  /* one byte for each PID */
     SONGPIGEON_MEMORY = 24576,   /* half-built sections */
+    SONGPIGEON_NUMBERS = 384,    /* the events of a call as numbers, four to an event */
     SONGPIGEON_EVENTS = 96,      /* the least room for events; a call has at most 87 */
     SONGPIGEON_FIELDS = 12,      /* the fields of a test data section, one byte each */
     SONGPIGEON_PLACES = 4,       /* descriptors at, length; data at, length */
@@ -114,10 +115,15 @@ typedef struct {
     uint16_t words[SONGPIGEON_WORDS];
     uint8_t counters[SONGPIGEON_COUNTERS];
     uint8_t memory[SONGPIGEON_MEMORY];
+    uint64_t numbers[SONGPIGEON_NUMBERS];
     songpigeon_event events[SONGPIGEON_EVENTS]; /* those of the last call: the first n */
 } songpigeon_card;
 
-/* ---- The calls over each array. Those without a length beside them have the length that stands in their brackets. */
+/* ---- The calls over each array. Those without a length beside them have the length that stands in their brackets.
+ *
+ * `numbers` is where a call works its events out. Any contents serve before a call, and the next call needs none of them.
+ * After a call it holds the call's events from the first place on, four numbers to an event: stamp, fault, cause, id. The
+ * others are as they were. */
 
 /* Opens at a time: writes the state of an opening, and sets the counter table to 0. Refusals 2 and 4. */
 songpigeon_reply songpigeon_open(uint64_t times[SONGPIGEON_TIMES], uint16_t words[SONGPIGEON_WORDS], uint64_t time,
@@ -126,13 +132,14 @@ songpigeon_reply songpigeon_open(uint64_t times[SONGPIGEON_TIMES], uint16_t word
 /* Judges a packet. Refusals 1 to 6. */
 songpigeon_reply songpigeon_packet(uint64_t times[SONGPIGEON_TIMES], uint16_t words[SONGPIGEON_WORDS], uint64_t time,
                                    const uint8_t *packet, size_t packet_length, uint8_t *counters,
-                                   size_t counters_length, uint8_t memory[SONGPIGEON_MEMORY], songpigeon_event *events,
+                                   size_t counters_length, uint8_t memory[SONGPIGEON_MEMORY],
+                                   uint64_t numbers[SONGPIGEON_NUMBERS], songpigeon_event *events,
                                    size_t events_length);
 
 /* Lets time pass without a packet. Refusals 3 to 6. */
 songpigeon_reply songpigeon_clock(uint64_t times[SONGPIGEON_TIMES], uint16_t words[SONGPIGEON_WORDS], uint64_t time,
-                                  const uint8_t memory[SONGPIGEON_MEMORY], songpigeon_event *events,
-                                  size_t events_length);
+                                  const uint8_t memory[SONGPIGEON_MEMORY], uint64_t numbers[SONGPIGEON_NUMBERS],
+                                  songpigeon_event *events, size_t events_length);
 
 /* ---- The calls over a card. */
 
@@ -148,12 +155,13 @@ static inline songpigeon_reply songpigeon_card_packet(songpigeon_card *card, uin
     static const uint8_t nothing[1] = {0};
     return songpigeon_packet(card->times, card->words, time, packet != NULL ? packet : nothing,
                              packet != NULL ? packet_length : 0, card->counters, SONGPIGEON_COUNTERS, card->memory,
-                             card->events, SONGPIGEON_EVENTS);
+                             card->numbers, card->events, SONGPIGEON_EVENTS);
 }
 
 /* Lets time pass without a packet: what became late. Refusals 4, 6; 5 as above. */
 static inline songpigeon_reply songpigeon_card_clock(songpigeon_card *card, uint64_t time) {
-    return songpigeon_clock(card->times, card->words, time, card->memory, card->events, SONGPIGEON_EVENTS);
+    return songpigeon_clock(card->times, card->words, time, card->memory, card->numbers, card->events,
+                            SONGPIGEON_EVENTS);
 }
 
 /* ---- Severity of a gap in ticks, by A/78. */

@@ -48,11 +48,13 @@ fn by_product(stream: &Stream) -> usize {
     let (mut times, mut words) = ([0; lent::TIMES], [0; lent::WORDS]);
     let mut counters = vec![0; lent::COUNTERS];
     let mut memory = Box::new([0; lent::MEMORY]);
+    let mut numbers = [0; lent::NUMBERS];
     let mut events = [lent::Event::default(); lent::EVENT_ROOM];
     lent::open(&mut times, &mut words, 0, &mut counters);
     let mut n = 0;
     for (time, packet) in stream.packets() {
-        n += lent::packet(&mut times, &mut words, time, packet, &mut counters, &mut memory, &mut events).n;
+        n +=
+            lent::packet(&mut times, &mut words, time, packet, &mut counters, &mut memory, &mut numbers, &mut events).n;
     }
     n
 }

@@ -1,4 +1,4 @@
-//! Each call made on both sides, and everything compared after it: refusal, events with the records behind them,
+//! Each call made on both sides, and everything compared after it: refusal, events with the records behind them, numbers,
 //! counter table, section memory and state.
 
 use crate::coverage::Coverage;
@@ -8,6 +8,7 @@ use songpigeon::lent;
 use songpigeon_reference::probe::{self, LATEST_TIME};
 use songpigeon_reference::sections::base;
 use songpigeon_reference::{Entry, Event, State};
+use std::array;
 
 /// Lent memory is longer than it need be, so that other lengths can be handed in.
 const COUNTER_ROOM: usize = 8_200;
@@ -24,6 +25,7 @@ pub struct Pair {
     product_memory: Box<lent::Memory>,
     product_counters: Vec<u8>,
     product_events: Vec<lent::Event>,
+    numbers: lent::Numbers,
 }
 
 pub fn lay(state: &State, times: &mut lent::Times, words: &mut lent::Words) {
@@ -79,6 +81,7 @@ impl Pair {
             times: [random.number(); lent::TIMES],
             words: [random.number() as u16; lent::WORDS],
             product_events: vec![lent::Event::default(); EVENT_ROOM],
+            numbers: array::from_fn(|_| random.number()),
         };
         let opening = probe::open(time, &mut pair.counters[..probe::COUNTERS]);
         let reply = lent::open(&mut pair.times, &mut pair.words, time, &mut pair.product_counters[..lent::COUNTERS]);
@@ -122,8 +125,19 @@ impl Pair {
         Ok(())
     }
 
+    /// The numbers, of anything before the call: the call's events laid over them, four numbers to an event.
+    fn compare_numbers(&self, n: usize, mut numbers: lent::Numbers) -> Result<(), String> {
+        for (place, event) in numbers.chunks_exact_mut(4).zip(&self.events[..n]) {
+            place.copy_from_slice(&[event.stamp, event.fault.into(), event.cause.into(), event.id.into()]);
+        }
+        match (0..lent::NUMBERS).find(|&k| numbers[k] != self.numbers[k]) {
+            Some(k) => Err(format!("number {}: {}, product {}", k, numbers[k], self.numbers[k])),
+            None => Ok(()),
+        }
+    }
+
     fn packet(&mut self, time: u64, packet: &[u8], table: usize, room: usize) -> Result<Result<usize, u32>, String> {
-        let (times, words) = (self.times, self.words);
+        let (times, words, numbers) = (self.times, self.words, self.numbers);
         let expected = probe::packet(
             &mut self.state,
             &mut self.memory,
@@ -139,20 +153,29 @@ impl Pair {
             packet,
             &mut self.product_counters[..table],
             &mut self.product_memory,
+            &mut self.numbers,
             &mut self.product_events[..room],
         );
         self.compare(expected, found)?;
         self.compare_arrays(expected.is_err(), times, words)?;
+        self.compare_numbers(found.n, numbers)?;
         Ok(expected)
     }
 
     fn clock(&mut self, time: u64, room: usize) -> Result<Result<usize, u32>, String> {
-        let (times, words) = (self.times, self.words);
+        let (times, words, numbers) = (self.times, self.words, self.numbers);
         let expected = probe::clock(&mut self.state, &self.memory, time, &mut self.events[..room]);
-        let found =
-            lent::clock(&mut self.times, &mut self.words, time, &self.product_memory, &mut self.product_events[..room]);
+        let found = lent::clock(
+            &mut self.times,
+            &mut self.words,
+            time,
+            &self.product_memory,
+            &mut self.numbers,
+            &mut self.product_events[..room],
+        );
         self.compare(expected, found)?;
         self.compare_arrays(expected.is_err(), times, words)?;
+        self.compare_numbers(found.n, numbers)?;
         Ok(expected)
     }
 

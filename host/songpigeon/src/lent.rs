@@ -13,6 +13,8 @@ pub const WORDS: usize = 56;
 pub const COUNTERS: usize = 8_192;
 /// half-built sections
 pub const MEMORY: usize = 24_576;
+/// the events of a call as numbers, four to an event: stamp, fault, cause, id
+pub const NUMBERS: usize = 384;
 /// the least room for events
 pub const EVENT_ROOM: usize = 96;
 
@@ -29,11 +31,14 @@ pub const DESCRIPTOR: usize = 257;
 
 /// The version that this crate is written for, `major * 10000 + minor * 100 + patch`. A library with another major number
 /// has other arrays or other calls: see [`version`].
-pub const VERSION: u32 = 10_000;
+pub const VERSION: u32 = 20_000;
 
 pub type Times = [u64; TIMES];
 pub type Words = [u16; WORDS];
 pub type Memory = [u8; MEMORY];
+/// Where a call works its events out. Any contents serve before a call, and the next call needs none of them. After a call
+/// it holds the call's events from the first place on, four numbers to an event; the others are as they were.
+pub type Numbers = [u64; NUMBERS];
 
 #[repr(C)]
 #[derive(Clone, Copy, Debug, Default, PartialEq, Eq)]
@@ -109,6 +114,7 @@ mod exported {
             counters: *mut u8,
             counters_length: usize,
             memory: *mut u8,
+            numbers: *mut u64,
             events: *mut Event,
             events_length: usize,
         ) -> Reply;
@@ -117,6 +123,7 @@ mod exported {
             words: *mut u16,
             time: u64,
             memory: *const u8,
+            numbers: *mut u64,
             events: *mut Event,
             events_length: usize,
         ) -> Reply;
@@ -188,6 +195,7 @@ pub fn packet(
     packet: &[u8],
     counters: &mut [u8],
     memory: &mut Memory,
+    numbers: &mut Numbers,
     events: &mut [Event],
 ) -> Reply {
     // SAFETY: as above.
@@ -201,6 +209,7 @@ pub fn packet(
             counters.as_mut_ptr(),
             counters.len(),
             memory.as_mut_ptr(),
+            numbers.as_mut_ptr(),
             events.as_mut_ptr(),
             events.len(),
         )
@@ -208,7 +217,14 @@ pub fn packet(
 }
 
 /// A clock call. Refusals 3 to 6.
-pub fn clock(times: &mut Times, words: &mut Words, time: u64, memory: &Memory, events: &mut [Event]) -> Reply {
+pub fn clock(
+    times: &mut Times,
+    words: &mut Words,
+    time: u64,
+    memory: &Memory,
+    numbers: &mut Numbers,
+    events: &mut [Event],
+) -> Reply {
     // SAFETY: as above.
     unsafe {
         exported::songpigeon_clock(
@@ -216,6 +232,7 @@ pub fn clock(times: &mut Times, words: &mut Words, time: u64, memory: &Memory, e
             words.as_mut_ptr(),
             time,
             memory.as_ptr(),
+            numbers.as_mut_ptr(),
             events.as_mut_ptr(),
             events.len(),
         )

@@ -11,7 +11,7 @@
 pub mod lent;
 pub mod testdata;
 
-pub use lent::{Event, Memory, Times, Words};
+pub use lent::{Event, Memory, Numbers, Times, Words};
 
 use std::error::Error;
 use std::fmt;
@@ -119,6 +119,7 @@ pub struct Probe {
     words: Words,
     counters: Box<[u8; lent::COUNTERS]>,
     memory: Box<Memory>,
+    numbers: Box<Numbers>,
     events: Box<[Event; lent::EVENT_ROOM]>,
 }
 
@@ -130,6 +131,7 @@ impl Probe {
             words: [0; lent::WORDS],
             counters: Box::new([0; lent::COUNTERS]),
             memory: Box::new([0; lent::MEMORY]),
+            numbers: Box::new([0; lent::NUMBERS]),
             events: Box::new([Event::default(); lent::EVENT_ROOM]),
         };
         match lent::open(&mut probe.times, &mut probe.words, time, &mut *probe.counters).refusal {
@@ -147,6 +149,7 @@ impl Probe {
             packet,
             &mut *self.counters,
             &mut self.memory,
+            &mut self.numbers,
             &mut *self.events,
         );
         self.events_of(reply)
@@ -154,7 +157,8 @@ impl Probe {
 
     /// Lets time pass without a packet: what became late. 4 or 6 for its time.
     pub fn clock(&mut self, time: u64) -> Result<&[Event], Refusal> {
-        let reply = lent::clock(&mut self.times, &mut self.words, time, &self.memory, &mut *self.events);
+        let reply =
+            lent::clock(&mut self.times, &mut self.words, time, &self.memory, &mut self.numbers, &mut *self.events);
         self.events_of(reply)
     }
 

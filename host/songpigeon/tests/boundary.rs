@@ -49,6 +49,7 @@ fn slices_of_every_length_are_answered() {
     let mut words = [0; lent::WORDS];
     let mut memory = [0; lent::MEMORY];
     let mut counters = vec![7; 10_000];
+    let mut numbers = [8; lent::NUMBERS];
     let mut events = vec![Event { stamp: 9, fault: 9, cause: 9, id: 9 }; 200];
     for n in [0, 1, 8_191, 8_193, 10_000] {
         assert_eq!(lent::open(&mut times, &mut words, 0, &mut counters[..n]).refusal, 2);
@@ -66,21 +67,25 @@ fn slices_of_every_length_are_answered() {
         (188, 8_192, 95, 3),
         (188, 8_192, 0, 3),
     ] {
-        let reply =
-            lent::packet(&mut times, &mut words, 5, &packet[..p], &mut counters[..c], &mut memory, &mut events[..e]);
+        let (packet, counters, events) = (&packet[..p], &mut counters[..c], &mut events[..e]);
+        let reply = lent::packet(&mut times, &mut words, 5, packet, counters, &mut memory, &mut numbers, events);
         assert_eq!(reply, Reply { refusal, n: 0 });
     }
-    assert_eq!(lent::clock(&mut times, &mut words, 5, &memory, &mut []), Reply { refusal: 3, n: 0 });
+    assert_eq!(lent::clock(&mut times, &mut words, 5, &memory, &mut numbers, &mut []), Reply { refusal: 3, n: 0 });
     assert_eq!((times, words), (t, w));
     assert!(events.iter().all(|e| e.stamp == 9));
+    assert_eq!(numbers, [8; lent::NUMBERS]);
     for room in [96, 97, 200] {
-        let reply =
-            lent::packet(&mut times, &mut words, 5, &packet, &mut counters[..8_192], &mut memory, &mut events[..room]);
+        let (counters, events) = (&mut counters[..8_192], &mut events[..room]);
+        let reply = lent::packet(&mut times, &mut words, 5, &packet, counters, &mut memory, &mut numbers, events);
         assert_eq!(reply.refusal, 0);
     }
     // loss of sync with the second: two events; the third is silent; the other records are untouched
     assert_eq!(events[1], Event { stamp: 5, fault: 0x000C, cause: 0, id: 0x0123 });
     assert!(events[2..].iter().all(|e| e.stamp == 9));
+    // four numbers to an event, the others as they were
+    assert_eq!(numbers[4..8], [5, 0x000C, 0, 0x0123]);
+    assert!(numbers[8..].iter().all(|&number| number == 8));
 }
 
 #[test]
@@ -97,11 +102,13 @@ fn an_unaligned_packet_is_a_packet() {
 
 #[test]
 fn forged_states_are_answered() {
-    let (mut counters, mut memory, mut events) = ([0; 8_192], [0; lent::MEMORY], [Event::default(); 96]);
+    let (mut counters, mut memory) = ([0; 8_192], [0; lent::MEMORY]);
+    let (mut numbers, mut events) = ([0; lent::NUMBERS], [Event::default(); 96]);
     for word in 0..lent::WORDS {
         let (mut times, mut words) = ([0; lent::TIMES], [0; lent::WORDS]);
         words[word] = u16::MAX;
-        let reply = lent::packet(&mut times, &mut words, 0, &packet(), &mut counters, &mut memory, &mut events);
+        let (packet, table) = (packet(), &mut counters);
+        let reply = lent::packet(&mut times, &mut words, 0, &packet, table, &mut memory, &mut numbers, &mut events);
         // a place that is not listed is not judged; `lost` has no wrong value; all others are refused
         let expected = if word < 32 || word == 53 { 0 } else { 5 };
         assert_eq!(reply.refusal, expected, "word {}", word);
@@ -109,7 +116,7 @@ fn forged_states_are_answered() {
     for time in 0..6 {
         let (mut times, mut words) = ([0; lent::TIMES], [0; lent::WORDS]);
         times[time] = (1 << 62) + 1;
-        assert_eq!(lent::clock(&mut times, &mut words, 0, &memory, &mut events).refusal, 5);
+        assert_eq!(lent::clock(&mut times, &mut words, 0, &memory, &mut numbers, &mut events).refusal, 5);
     }
 }
 
@@ -275,6 +282,7 @@ fn the_header_has_the_same_names() {
         ("WORDS", lent::WORDS as u32),
         ("COUNTERS", lent::COUNTERS as u32),
         ("MEMORY", lent::MEMORY as u32),
+        ("NUMBERS", lent::NUMBERS as u32),
         ("EVENTS", lent::EVENT_ROOM as u32),
         ("FIELDS", lent::FIELDS as u32),
         ("PLACES", lent::PLACES as u32),
