@@ -98,7 +98,9 @@ static void calls(void) {
     reply = songpigeon_card_clock(&card, 13500001);
     CHECK(reply.refusal == SONGPIGEON_ACCEPTED && reply.n == 1);
     CHECK(is_event(0, 13500000, SONGPIGEON_FAULT_PAT, SONGPIGEON_CAUSE_LATE, 0));
-    CHECK(songpigeon_card_clock(&card, 13500001).n == 0);
+    CHECK(card.numbers[0] == 13500000 && card.numbers[1] == SONGPIGEON_FAULT_PAT);
+    CHECK(card.numbers[2] == SONGPIGEON_CAUSE_LATE && card.numbers[3] == 0);
+    CHECK(songpigeon_card_clock(&card, 13500001).n == 0 && card.numbers[0] == 13500000);
     /* refusals */
     before = card;
     make(packet, 0, 0x0123, 5, payload, 0);
