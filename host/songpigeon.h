@@ -115,7 +115,7 @@ typedef struct {
     uint16_t words[SONGPIGEON_WORDS];
     uint8_t counters[SONGPIGEON_COUNTERS];
     uint8_t memory[SONGPIGEON_MEMORY];
-    uint64_t numbers[SONGPIGEON_NUMBERS];
+    uint64_t numbers[SONGPIGEON_NUMBERS];       /* what the last call worked its events out in */
     songpigeon_event events[SONGPIGEON_EVENTS]; /* those of the last call: the first n */
 } songpigeon_card;
 
