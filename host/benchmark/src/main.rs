@@ -84,13 +84,17 @@ fn packets(options: &Options) {
         }
     }
     beside(options, "3.4 % PAT and 3.4 % PMT", &Stream::common(options.packets));
+    for programmes in [1, 8, 16] {
+        let name = format!("PAT of {:>2} programmes alone", programmes);
+        beside(options, &name, &Stream::pats(options.packets / 10, programmes));
+    }
 }
 
 /// One stream by both.
 fn beside(options: &Options, name: &str, stream: &Stream) {
     assert_eq!(by_product(stream), by_reference(stream), "the two give other events");
     let times = alternate(Clock::Processor, options.rounds, || by_product(stream), || by_reference(stream));
-    compare(name, options.packets, &times);
+    compare(name, stream.packets().count(), &times);
 }
 
 fn crc(options: &Options) {

@@ -62,6 +62,12 @@ impl Stream {
         })
     }
 
+    /// The PAT of so many programmes, again and again.
+    pub fn pats(packets: usize, programmes: u16) -> Stream {
+        let tables = Tables::new(programmes, false);
+        Stream::counted(packets, |_| tables.packet(0))
+    }
+
     pub fn bytes(&self) -> &[u8] {
         &self.0
     }
