@@ -24,15 +24,11 @@ empty-room ns m r e = ap (λ (n : ℕ). isMore (stageOf (greatestLength r) (half
 pub none-rooms : (ns m : List ℕ) → noneHalf ns ≡ true → roomsSound ns m ≡ true
 none-rooms ns m e = rooms-whole ns m 0 roomCount (λ r l g. empty-room ns m r (none-at ns e r))
 
--- the half-built length of a room, in the words
-pub half-in : (words : List ℕ) (r : ℕ) → r < 21 → halfAt (part words 32 21) r ≡ getD words (32 + r) 0
-half-in words r h = part-at words 32 21 r 0 h
-
 -- where none is behind the fixed rooms
-pub listed-rooms : (words m : List ℕ) → noneHalf (part words 37 16) ≡ true → roomsFrom (part words 32 21) m 5 16 ≡ true
-listed-rooms words m e =
-    rooms-whole (part words 32 21) m 5 16
+pub listed-rooms : (ns m : List ℕ) → noneHalf (part ns 5 16) ≡ true → roomsFrom ns m 5 16 ≡ true
+listed-rooms ns m e =
+    rooms-whole ns m 5 16
     (λ r l g.
-    let k : 37 + (r - 5) ≡ 32 + r = omega arith in
-    let same = half-in words r (omega arith) ∙ ap (λ (i : ℕ). getD words i 0) (sym k) ∙ sym (part-at words 37 16 (r - 5) 0 (omega arith)) in
-    empty-room (part words 32 21) m r (same ∙ none-at (part words 37 16) e (r - 5)))
+    let k : 5 + (r - 5) ≡ r = omega arith in
+    let same = ap (λ (i : ℕ). getD ns i 0) (sym k) ∙ sym (part-at ns 5 16 (r - 5) 0 (omega arith)) in
+    empty-room ns m r (same ∙ none-at (part ns 5 16) e (r - 5)))

@@ -1,5 +1,5 @@
 -- The tests of a quiet call, one turn of each loop at a time. Assumes nothing.
-use mathlib.Core.Path.{_≡_, refl, sym, ap, _∙_}
+use mathlib.Core.Path.{_≡_, refl, sym, ap, ap₂, _∙_}
 use mathlib.Core.Bool.{Bool, true, false, cond, not, _&&_, true≢false}
 use mathlib.Core.List.{List, [], _∷_}
 use Prim.Native.Nat.{ℕ, suc, _+_, _-_, _≤_, _<_}
@@ -7,6 +7,7 @@ use native.Mathlib.Nat.{zero-add}
 use native.Mathlib.Omega.{arith}
 use lib.Dec.{eqb, leb}
 use lib.ListN.{length, getD, set, take, drop}
+use lib.Seq.{set-getD}
 use borrow.Author.Tests.{leb-false, eqb-true, ne-eqb}
 use Rattle.lists.proofs.Tests.{and-left, and-right}
 use Rattle.lists.specs.Places.{part}
@@ -14,18 +15,14 @@ use Rattle.lists.proofs.Places.{part-turn}
 use Rattle.lists.proofs.Turns.{left-turn, left-none}
 use Rattle.watches.specs.declared.Entry.{Entry}
 use Rattle.watches.specs.Tables.{noEntry}
-use Rattle.header.specs.Header.{packetSize}
+use Rattle.header.specs.Header.{packetSize, pidOf}
 use Rattle.calls.specs.Sound.{timeSound}
+use Rattle.calls.specs.Steps.{counted}
 use Rattle.calls.specs.Calls.{tableSize, leastRoom}
 use Rattle.arrays.specs.Lent.{lostIn, runIn, entryIn, tabled}
-use Rattle.arrays.proofs.Tabled.{part-tabled}
 use Rattle.arrays.proofs.Back.{getD-tabled}
-use Rattle.quiet.specs.Quiet.{entryQuiet, markOf, entriesQuiet, noneHalf, sizesQuiet, countQuiet, packetQuiet}
-
--- THE FIVE GAP STARTS, by name
-pub five : (l : List ℕ) → length l ≡ 22 → part l 1 5 ≡ getD l 1 0 ∷ getD l 2 0 ∷ getD l 3 0 ∷ getD l 4 0 ∷ getD l 5 0 ∷ []
-unfolding tabled
-five l h = part-tabled l 0 1 5 (omega arith)
+use Rattle.quiet.specs.declared.Glance.{Glance}
+use Rattle.quiet.specs.Quiet.{entryQuiet, markOf, entriesQuiet, noneHalf, sizesQuiet, idlePacket, countQuiet, packetQuiet, Glanced}
 
 pub cond-same : (b : Bool) → b ≡ cond b true false
 cond-same true = refl
@@ -105,3 +102,15 @@ module _ (t : ℕ) (x counters : List ℕ) (room : ℕ) where
 
   pub packet-lengths : packetQuiet t x counters room ≡ true → (length x ≡ packetSize) × (length counters ≡ tableSize)
   packet-lengths e = sizes-lengths (passed (sizesQuiet t x counters room) (countQuiet x counters) e .0)
+
+-- WHAT IS SEEN OF A PACKET: one that is not quiet; one of step 3; one that is counted
+pub glanced-loud : {x counters : List ℕ} {g : Glance} → g .quiet ≡ false → g .pid ≡ 0 → Glanced false x counters g
+glanced-loud e q = record { seen = e; pid = λ z. absurd (true≢false (sym z)); table = λ z. absurd (true≢false (sym z)); small = rw q (omega arith) }
+
+module _ (x counters : List ℕ) (g : Glance) (quiet : Bool) (seen : g .quiet ≡ quiet) (pid : g .pid ≡ pidOf x) (small : g .pid < 8192) where
+  pub glanced-idle : idlePacket x ≡ true → g .byte ≡ getD counters (g .pid) 0 → Glanced quiet x counters g
+  glanced-idle e byte =
+      record { seen = seen; pid = λ z. pid; table = λ z. rw e (ap (set counters (g .pid)) byte ∙ set-getD counters (g .pid) 0); small = small }
+
+  pub glanced-counted : idlePacket x ≡ false → g .byte ≡ counted x counters .byte → Glanced quiet x counters g
+  glanced-counted e byte = record { seen = seen; pid = λ z. pid; table = λ z. rw e (ap₂ (set counters) pid byte); small = small }

@@ -21,9 +21,12 @@
 --   packetQuiet           == the packet x is quiet
 --   quietCall, quietIn    == both are, in a state by value or in two arrays
 --   countedTable          == the counter table after step 3, or step 4
+--   Glanced quiet x counters g == what is seen of the packet x, g: whether it is quiet, and then its PID and its byte in the counter table after step 3, or
+--                            step 4
 --   quietTimes, quietTable == the times and the counter table after the quiet part of a call, which leaves them where the call is not quiet
 --   firstOf quiet         == what is told of it: a quiet call is accepted, with no event
-use Prim.Native.Nat.{ℕ, _+_, _%_}
+use mathlib.Core.Path.{_≡_}
+use Prim.Native.Nat.{ℕ, _+_, _%_, _<_}
 use mathlib.Core.Bool.{Bool, true, false, cond, not, _&&_, _||_}
 use mathlib.Core.List.{List, [], _∷_}
 use lib.Dec.{leb, ltb, eqb}
@@ -41,6 +44,7 @@ use Rattle.calls.specs.Steps.{counted}
 use Rattle.calls.specs.Calls.{tableSize, leastRoom}
 use Rattle.arrays.specs.Lent.{timeCount, wordCount, stateIn}
 use Rattle.quiet.specs.declared.First.{First}
+use Rattle.quiet.specs.declared.Glance.{Glance}
 
 -- WATCHES
 abbrev pub gapQuiet : ℕ → ℕ → ℕ → ℕ → Bool
@@ -121,11 +125,17 @@ quietIn times words m t x counters room =
     cond (eqb (length times) timeCount && eqb (length words) wordCount) (quietCall (stateIn times words) m t x counters room) false
 
 -- WHAT IT LEAVES
-abbrev pub quietTimes : Bool → ℕ → List ℕ → List ℕ
-quietTimes quiet t times = cond quiet (set times 0 t) times
-
 abbrev pub countedTable : List ℕ → List ℕ → List ℕ
 countedTable x counters = cond (idlePacket x) counters (set counters (pidOf x) (counted x counters .byte))
+
+pub record Glanced (quiet : Bool) (x counters : List ℕ) (g : Glance) : Type 0 where
+  pub seen : g .quiet ≡ quiet
+  pub pid : quiet ≡ true → g .pid ≡ pidOf x
+  pub table : quiet ≡ true → set counters (g .pid) (g .byte) ≡ countedTable x counters
+  pub small : g .pid < 8192
+
+abbrev pub quietTimes : Bool → ℕ → List ℕ → List ℕ
+quietTimes quiet t times = cond quiet (set times 0 t) times
 
 abbrev pub quietTable : Bool → List ℕ → List ℕ → List ℕ
 quietTable quiet x counters = cond quiet (countedTable x counters) counters

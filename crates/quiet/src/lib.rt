@@ -8,20 +8,19 @@ use header::Header;
 pub use value::quiet_value;
 ghost use mathlib.Core.Path.{_≡_};
 ghost use mathlib.Core.List.{List};
-ghost use Prim.Native.Nat.{ℕ, _+_, _-_, _≤_, _<_};
-ghost use mathlib.Core.Bool.{true, false, cond, not, _&&_, _||_};
+ghost use Prim.Native.Nat.{ℕ, _-_, _≤_};
+ghost use mathlib.Core.Bool.{true, false, not, _&&_, _||_};
 ghost use lib.Dec.{eqb, leb};
 ghost use lib.ListN.{length, getD, take};
 ghost use Rattle.lists.specs.Places.{part};
 ghost use Rattle.watches.specs.Tables.{fixedTables, latestTime};
 ghost use Rattle.header.specs.Header.{packetSize};
-ghost use Rattle.continuity.specs.Continuity.{knownByte, countedOf};
-ghost use Rattle.sections.specs.Rooms.{memorySize};
+ghost use Rattle.sections.specs.Rooms.{memorySize, roomCount};
 ghost use Rattle.programmes.specs.Listing.{lowestPid, nullPid};
 ghost use Rattle.arrays.specs.Lent.{timeCount, wordCount, entryIn, tabled, stateIn};
-ghost use Rattle.calls.specs.Sound.{roomSound, roomsFrom, roomsSound};
+ghost use Rattle.calls.specs.Sound.{roomsFrom, roomsSound};
 ghost use Rattle.calls.specs.Calls.{tableSize};
-ghost use Rattle.quiet.specs.Quiet.{gapQuiet, tablesQuiet, entryQuiet, entriesQuiet, unmarked, noneHalf, latestQuiet, stateQuiet, sizesQuiet, countQuiet, packetQuiet, quietCall, quietIn, quietTimes, countedTable, quietTable, firstOf};
+ghost use Rattle.quiet.specs.Quiet.{gapQuiet, tablesQuiet, entryQuiet, entriesQuiet, unmarked, noneHalf, latestQuiet, stateQuiet, sizesQuiet, countQuiet, packetQuiet, Glanced, quietIn, quietTimes, quietTable, firstOf};
 
 const LATEST_TIME: u64 = 4_611_686_018_427_387_904;
 
@@ -41,6 +40,13 @@ pub struct First {
     pub answer: Reply,
 }
 
+// Whether a packet is quiet, and then its PID and its byte in the counter table after steps 3 and 4.
+struct Glance {
+    quiet: bool,
+    pid: u16,
+    byte: u8,
+}
+
 // Whether a gap start is not above 2^62 and its stamp does not fall due as time goes from p to t.
 fn gap_quiet(since: u64, limit: u64, p: u64, t: u64) -> bool
     requires { ⌜ limit ≤ latestTime ⌝ }
@@ -57,89 +63,76 @@ fn gap_quiet(since: u64, limit: u64, p: u64, t: u64) -> bool
 }
 
 // Whether those of the five fixed tables are quiet, down the table.
-fn tables_quiet(times: &[u64], t: u64) -> bool
-    requires { ⌜ length (now times) ≡ timeCount ⌝ }
-    ensures { λ r. ⌜ r ≡ tablesQuiet (getD (now (times .entry)) 0 0) t fixedTables (part (now (times .entry)) 1 5) ⌝ }
+fn tables_quiet(since: &[u64], p: u64, t: u64) -> bool
+    requires { ⌜ length (now since) ≡ 5 ⌝ }
+    ensures { λ r. ⌜ r ≡ tablesQuiet p t fixedTables (now (since .entry)) ⌝ }
 {
-    let p = times[0];
-    if !gap_quiet(times[1], 13_500_000, p, t) {
+    if !gap_quiet(since[0], 13_500_000, p, t) {
         return false;
     }
-    if !gap_quiet(times[2], 270_000_000, p, t) {
+    if !gap_quiet(since[1], 270_000_000, p, t) {
         return false;
     }
-    if !gap_quiet(times[3], 54_000_000, p, t) {
+    if !gap_quiet(since[2], 54_000_000, p, t) {
         return false;
     }
-    if !gap_quiet(times[4], 54_000_000, p, t) {
+    if !gap_quiet(since[3], 54_000_000, p, t) {
         return false;
     }
-    gap_quiet(times[5], 810_000_000, p, t)
+    gap_quiet(since[4], 810_000_000, p, t)
 }
 
 // Whether nothing is half-built. All lengths are looked at: a loop without a way out is done many at a time.
-fn none_half(words: &[u16]) -> bool
-    requires { ⌜ length (now words) ≡ wordCount ⌝ }
-    ensures { λ r. ⌜ r ≡ noneHalf (part (now (words .entry)) 32 21) ⌝ }
+fn none_half(half: &[u16]) -> bool
+    requires { ⌜ length (now half) ≡ roomCount ⌝ }
+    ensures { λ r. ⌜ r ≡ noneHalf (now (half .entry)) ⌝ }
 {
     let mut none = true;
     let mut k: usize = 0;
     while k < 21 {
-        none = none & (words[32 + k] == 0);
+        none = none & (half[k] == 0);
         k += 1;
     }
     none
 }
 
 // The same of the rooms of the list, in which sections are mostly of one packet.
-fn none_listed(words: &[u16]) -> bool
-    requires { ⌜ length (now words) ≡ wordCount ⌝ }
-    ensures { λ r. ⌜ r ≡ noneHalf (part (now (words .entry)) 37 16) ⌝ }
+fn none_listed(half: &[u16]) -> bool
+    requires { ⌜ length (now half) ≡ roomCount ⌝ }
+    ensures { λ r. ⌜ r ≡ noneHalf (part (now (half .entry)) 5 16) ⌝ }
 {
     let mut none = true;
     let mut k: usize = 0;
     while k < 16 {
-        none = none & (words[37 + k] == 0);
+        none = none & (half[5 + k] == 0);
         k += 1;
     }
     none
 }
 
 // A room from which on nothing is half-built.
-fn rooms_used(words: &[u16]) -> usize
-    requires { ⌜ length (now words) ≡ wordCount ⌝ }
-    ensures { λ r. ⌜ (r ≤ 21) × ((m : List ℕ) → roomsFrom (part (now (words .entry)) 32 21) m r (21 - r) ≡ true) ⌝ }
+fn rooms_used(half: &[u16]) -> usize
+    requires { ⌜ length (now half) ≡ roomCount ⌝ }
+    ensures { λ r. ⌜ (r ≤ 21) × ((m : List ℕ) → roomsFrom (now (half .entry)) m r (21 - r) ≡ true) ⌝ }
 {
-    if none_listed(words) {
+    if none_listed(half) {
         return 5;
     }
     21
 }
 
-// Whether the half-built bytes of a room are as refusal 5 has them.
-fn room_quiet(words: &[u16], memory: &[u8], room: usize) -> bool
-    requires { ⌜ (length (now words) ≡ wordCount) × (length (now memory) ≡ memorySize) × (room < 21) ⌝ }
-    ensures { λ r. ⌜ r ≡ roomSound (part (now (words .entry)) 32 21) (now (memory .entry)) room ⌝ }
+// Whether half-built sections are as refusal 5 has them: mostly there are none.
+fn rooms_quiet(half: &[u16], memory: &[u8]) -> bool
+    requires { ⌜ (length (now half) ≡ roomCount) × (length (now memory) ≡ memorySize) ⌝ }
+    ensures { λ r. ⌜ r ≡ roomsSound (now (half .entry)) (now (memory .entry)) ⌝ }
 {
-    let n = words[32 + room];
-    if n == 0 {
+    if none_half(half) {
         return true;
     }
-    checks::room_sound(memory, room, n)
-}
-
-// Whether those of all rooms are: mostly there are none.
-fn rooms_quiet(words: &[u16], memory: &[u8]) -> bool
-    requires { ⌜ (length (now words) ≡ wordCount) × (length (now memory) ≡ memorySize) ⌝ }
-    ensures { λ r. ⌜ r ≡ roomsSound (part (now (words .entry)) 32 21) (now (memory .entry)) ⌝ }
-{
-    if none_half(words) {
-        return true;
-    }
-    let top = rooms_used(words);
+    let top = rooms_used(half);
     let mut room: usize = 0;
     while room < top {
-        if !room_quiet(words, memory, room) {
+        if !checks::room_sound(memory, room, half[room]) {
             return false;
         }
         room += 1;
@@ -196,7 +189,7 @@ fn latest_quiet(p: u64, t: u64) -> bool
 }
 
 // Whether the state is quiet for a packet of the PID q.
-pub fn state_quiet(times: &[u64], words: &[u16], memory: &[u8], t: u64, q: u16) -> bool
+fn state_quiet(times: &[u64], words: &[u16], memory: &[u8], t: u64, q: u16) -> bool
     requires { ⌜ (length (now times) ≡ timeCount) × (length (now words) ≡ wordCount) × (length (now memory) ≡ memorySize) ⌝ }
     ensures { λ r. ⌜ r ≡ stateQuiet (stateIn (now (times .entry)) (now (words .entry))) (now (memory .entry)) t q ⌝ }
 {
@@ -207,10 +200,10 @@ pub fn state_quiet(times: &[u64], words: &[u16], memory: &[u8], t: u64, q: u16) 
     if !latest_quiet(times[0], t) {
         return false;
     }
-    if !rooms_quiet(words, memory) {
+    if !rooms_quiet(&words[32..53], memory) {
         return false;
     }
-    if !tables_quiet(times, t) {
+    if !tables_quiet(&times[1..6], times[0], t) {
         return false;
     }
     entries_quiet(times, words, count as usize, t, q)
@@ -230,82 +223,60 @@ fn is_idle(h: Header) -> bool
     (h.pid == NULL_PID) | (h.control == 0)
 }
 
-// Whether the table byte is one that these calls leave, and step 4 has no event.
-fn byte_quiet(byte: u8, h: Header) -> bool
-    requires { ⌜ h .counter < 16 ⌝ }
-    ensures { λ r. ⌜ r ≡ cond (knownByte byte) ((eqb (h .pid) nullPid || eqb (h .control) 0) || not (countedOf byte h .event)) false ⌝ }
-{
-    if !continuity::known_byte(byte) {
-        return false;
-    }
-    if is_idle(h) {
-        return true;
-    }
-    let j = continuity::judge(byte, h);
-    !j.event
-}
-
 // Whether packet, table, list and time are as refusals 1 to 4 ask.
-pub fn sizes_quiet(t: u64, packet: &[u8], counters: &[u8], room: usize) -> bool
+fn sizes_quiet(t: u64, packet: &[u8], counters: &[u8], room: usize) -> bool
     ensures { λ r. ⌜ r ≡ sizesQuiet t (now (packet .entry)) (now (counters .entry)) room ⌝ }
 {
     (packet.len() == 188) & (counters.len() == 8192) & (96 <= room) & (t <= LATEST_TIME)
 }
 
-// Whether the packet is one of which only the counter is looked at, with nothing to be said of it.
-fn count_quiet(packet: &[u8], counters: &[u8]) -> bool
+fn loud() -> Glance
+    ensures { λ g. ⌜ (g .quiet ≡ false) × (g .pid ≡ 0) ⌝ }
+{
+    Glance {
+        quiet: false,
+        pid: 0,
+        byte: 0,
+    }
+}
+
+// Whether the packet is one of which only the counter is looked at, with nothing to be said of it. Header and table byte
+// are read here, and nowhere else on the way of a quiet call.
+fn count_quiet(packet: &[u8], counters: &[u8]) -> Glance
     requires { ⌜ (length (now packet) ≡ packetSize) × (length (now counters) ≡ tableSize) ⌝ }
-    ensures { λ r. ⌜ r ≡ countQuiet (now (packet .entry)) (now (counters .entry)) ⌝ }
+    ensures { λ g. ⌜ Glanced (countQuiet (now (packet .entry)) (now (counters .entry))) (now (packet .entry)) (now (counters .entry)) g ⌝ }
 {
     let h = header::read(packet);
     if !head_quiet(packet[0], h) {
-        return false;
+        return loud();
     }
-    byte_quiet(counters[h.pid as usize], h)
+    let byte = counters[h.pid as usize];
+    if !continuity::known_byte(byte) {
+        return loud();
+    }
+    if is_idle(h) {
+        return Glance {
+            quiet: true,
+            pid: h.pid,
+            byte: byte,
+        };
+    }
+    let j = continuity::judge(byte, h);
+    Glance {
+        quiet: !j.event,
+        pid: h.pid,
+        byte: j.byte,
+    }
 }
 
 // Whether the packet is quiet.
-fn packet_quiet(t: u64, packet: &[u8], counters: &[u8], room: usize) -> bool
-    ensures { λ r. ⌜ r ≡ packetQuiet t (now (packet .entry)) (now (counters .entry)) room ⌝ }
+fn packet_quiet(t: u64, packet: &[u8], counters: &[u8], room: usize) -> Glance
+    ensures { λ g. ⌜ Glanced (packetQuiet t (now (packet .entry)) (now (counters .entry)) room) (now (packet .entry)) (now (counters .entry)) g ⌝ }
 {
     if !sizes_quiet(t, packet, counters, room) {
-        return false;
+        return loud();
     }
     count_quiet(packet, counters)
-}
-
-// Whether the call is quiet.
-fn call_quiet(
-    times: &[u64],
-    words: &[u16],
-    memory: &[u8],
-    t: u64,
-    packet: &[u8],
-    counters: &[u8],
-    room: usize,
-) -> bool
-    requires { ⌜ (length (now times) ≡ timeCount) × (length (now words) ≡ wordCount) × (length (now memory) ≡ memorySize) ⌝ }
-    ensures { λ r. ⌜ r ≡ quietCall (stateIn (now (times .entry)) (now (words .entry))) (now (memory .entry)) t (now (packet .entry)) (now (counters .entry)) room ⌝ }
-{
-    if !packet_quiet(t, packet, counters, room) {
-        return false;
-    }
-    let h = header::read(packet);
-    state_quiet(times, words, memory, t, h.pid)
-}
-
-// The counter table after steps 3 and 4.
-pub fn count_packet(packet: &[u8], counters: &mut [u8])
-    requires { ⌜ (length (now packet) ≡ packetSize) × (length (now counters) ≡ tableSize) ⌝ }
-    ensures { λ _. ⌜ now (counters .exit) ≡ countedTable (now (packet .entry)) (now (counters .entry)) ⌝ }
-{
-    let h = header::read(packet);
-    if is_idle(h) {
-        return;
-    }
-    let pid = h.pid as usize;
-    let j = continuity::judge(counters[pid], h);
-    counters[pid] = j.byte;
 }
 
 fn bytes_in(s: &[u8]) -> usize
@@ -315,7 +286,7 @@ fn bytes_in(s: &[u8]) -> usize
 }
 
 // Section memory has its length by its type: a call of this shows it.
-pub fn memory_size(memory: &[u8; 24576]) -> usize
+fn memory_size(memory: &[u8; 24576]) -> usize
     ensures { λ r. ⌜ (r ≡ memorySize) × (length (now (memory .entry)) ≡ memorySize) ⌝ }
 {
     bytes_in(memory)
@@ -344,10 +315,15 @@ pub fn quiet_packet(
         done: false,
         answer: Reply { refusal: 0, n: 0 },
     };
-    if !call_quiet(times, words, memory, time, packet, counters, room) {
+    let g = packet_quiet(time, packet, counters, room);
+    if !g.quiet {
         return no;
     }
-    count_packet(packet, counters);
+    if !state_quiet(times, words, memory, time, g.pid) {
+        return no;
+    }
+    let pid = g.pid as usize;
+    counters[pid] = g.byte;
     times[0] = time;
     First {
         done: true,

@@ -6,53 +6,8 @@ ghost use mathlib.Core.Bool.{not, _&&_};
 ghost use Prim.Native.Nat.{_≤_};
 ghost use lib.Dec.{eqb, leb};
 ghost use lib.ListN.{length, take};
-ghost use Rattle.watches.specs.Tables.{fixedTables};
 ghost use Rattle.sections.specs.Rooms.{memorySize, roomCount};
-ghost use Rattle.calls.specs.Sound.{roomsSound};
-ghost use Rattle.quiet.specs.Quiet.{tablesQuiet, entriesQuiet, unmarked, noneHalf, stateQuiet, quietCall, quietTable};
-
-// Whether those of the five fixed tables are quiet, down the table.
-fn tables_quiet(since: [u64; 5], p: u64, t: u64) -> bool
-    ensures { λ r. ⌜ r ≡ tablesQuiet p t fixedTables since ⌝ }
-{
-    if !crate::gap_quiet(since[0], 13_500_000, p, t) {
-        return false;
-    }
-    if !crate::gap_quiet(since[1], 270_000_000, p, t) {
-        return false;
-    }
-    if !crate::gap_quiet(since[2], 54_000_000, p, t) {
-        return false;
-    }
-    if !crate::gap_quiet(since[3], 54_000_000, p, t) {
-        return false;
-    }
-    crate::gap_quiet(since[4], 810_000_000, p, t)
-}
-
-// Whether nothing is half-built. All lengths are looked at, as in the words of a lent state.
-fn none_half(half: [u16; 21]) -> bool
-    ensures { λ r. ⌜ r ≡ noneHalf half ⌝ }
-{
-    let mut none = true;
-    let mut k: usize = 0;
-    while k < 21 {
-        none = none & (half[k] == 0);
-        k += 1;
-    }
-    none
-}
-
-// Whether half-built sections are as refusal 5 has them: mostly there are none.
-fn rooms_quiet(half: [u16; 21], memory: &[u8]) -> bool
-    requires { ⌜ length (now memory) ≡ memorySize ⌝ }
-    ensures { λ r. ⌜ (r ≡ roomsSound half (now (memory .entry))) × (length half ≡ roomCount) ⌝ }
-{
-    if none_half(half) {
-        return true;
-    }
-    checks::rooms_sound(half, memory)
-}
+ghost use Rattle.quiet.specs.Quiet.{entriesQuiet, unmarked, stateQuiet, quietCall, quietTable};
 
 // Whether the listed entries are quiet, with no two numbers of the same remainder.
 fn entries_quiet(entries: [Entry; 16], count: usize, p: u64, t: u64, q: u16) -> bool
@@ -104,11 +59,12 @@ fn state_quiet(state: State, memory: &[u8], t: u64, q: u16) -> bool
         return false;
     }
     let half = state.core.half;
-    if !rooms_quiet(half, memory) {
+    let since = state.core.since;
+    let places = sizes(since, half);
+    if !crate::rooms_quiet(&half, memory) {
         return false;
     }
-    let since = state.core.since;
-    if !tables_quiet(since, p, t) {
+    if !crate::tables_quiet(&since, p, t) {
         return false;
     }
     let entries = state.core.entries;
@@ -133,13 +89,14 @@ pub fn quiet_value(
     let since = state.core.since;
     let half = state.core.half;
     let places = sizes(since, half);
-    if !crate::packet_quiet(t, packet, counters, room) {
+    let g = crate::packet_quiet(t, packet, counters, room);
+    if !g.quiet {
         return false;
     }
-    let h = header::read(packet);
-    if !state_quiet(state, memory, t, h.pid) {
+    if !state_quiet(state, memory, t, g.pid) {
         return false;
     }
-    crate::count_packet(packet, counters);
+    let pid = g.pid as usize;
+    counters[pid] = g.byte;
     true
 }

@@ -11,10 +11,10 @@ use Rattle.quiet.proofs.none_listed.Statement.{statement}
 use Rattle.quiet.proofs.none_listed.Tie as tie
 
 abbrev Inv-loop : tie.InvT-loop
-Inv-loop words none₀ k₀ none k = (k ≤ 16) × ((none && noneHalf (part words (37 + k) (16 - k))) ≡ noneHalf (part words 37 16))
+Inv-loop half none₀ k₀ none k = (k ≤ 16) × ((none && noneHalf (part half (5 + k) (16 - k))) ≡ noneHalf (part half 5 16))
 
 abbrev μ-loop : tie.MeasureT-loop
-μ-loop words none₀ k₀ none k = 16 - k
+μ-loop half none₀ k₀ none k = 16 - k
 
 loop-holds : tie.Need-loop-holds Inv-loop μ-loop
 loop-holds c = (omega arith, refl)
@@ -37,13 +37,13 @@ loop-less c = search needs
 loop-again : tie.Need-loop-again Inv-loop μ-loop
 loop-again c =
     let loop = c .before .before .loop in
-    let words = c .before .before .before .args .words .now in
-    (omega arith, sym (none-turn (loop .none) words 37 (loop .k) 16 (omega arith) (omega arith)) ∙ loop .inv .1)
+    let half = c .before .before .before .args .half .now in
+    (omega arith, sym (none-turn (loop .none) half 5 (loop .k) 16 (omega arith) (omega arith)) ∙ loop .inv .1)
 
 returns : tie.Need-returns Inv-loop μ-loop
 returns c =
     let loop = c .before .loop in
-    sym (none-end (loop .none) (c .before .before .args .words .now) 37 (loop .k) 16 (c .loop-test .left)) ∙ loop .inv .1
+    sym (none-end (loop .none) (c .before .before .args .half .now) 5 (loop .k) 16 (c .loop-test .left)) ∙ loop .inv .1
 
 pub none-listed-spec : {M : Type 1} → statement M
 none-listed-spec =

@@ -2,15 +2,18 @@
 use borrow.Author.Needs.{needs}
 use mathlib.Core.Path.{sym, _∙_}
 use borrow.Author.Tests.{not-true, not-false}
-use Rattle.quiet.proofs.Turns.{sizes-lengths}
+use Rattle.quiet.proofs.Turns.{sizes-lengths, glanced-loud}
 use Rattle.quiet.proofs.packet_quiet.Statement.{statement}
 use Rattle.quiet.proofs.packet_quiet.Tie as tie
 
 sizes-quiet-requires : tie.Need-sizes-quiet-requires
 sizes-quiet-requires c κs = search needs
 
+loud-requires : tie.Need-loud-requires
+loud-requires c κs = search needs
+
 returns : tie.Need-returns
-returns c = rw (sym (c .before .sizes-quiet .ensures) ∙ not-true _ (c .if1 .taken))
+returns c = rw (sym (c .before .before .sizes-quiet .ensures) ∙ not-true _ (c .before .if1 .taken)) (glanced-loud (c .loud .ensures .0) (c .loud .ensures .1))
 
 count-quiet-requires : tie.Need-count-quiet-requires
 count-quiet-requires c κs =
@@ -25,6 +28,7 @@ packet-quiet-spec =
     tie.close
     (tie.spec
     sizes-quiet-requires
+    loud-requires
     returns
     count-quiet-requires
     returns-2)

@@ -4,7 +4,6 @@ use mathlib.Core.Path.{_≡_, refl, sym, ap, _∙_}
 use Prim.Native.Nat.{ℕ, _+_, _-_, _≤_}
 use native.Mathlib.Omega.{arith}
 use borrow.Author.Tests.{not-true, not-false}
-use Rattle.lists.specs.Places.{part}
 use Rattle.calls.specs.Sound.{roomsFrom}
 use Rattle.checks.proofs.Turns.{rooms-turn}
 use Rattle.quiet.proofs.Rooms.{none-rooms}
@@ -12,10 +11,10 @@ use Rattle.quiet.proofs.rooms_quiet.Statement.{statement}
 use Rattle.quiet.proofs.rooms_quiet.Tie as tie
 
 abbrev Inv-loop : tie.InvT-loop
-Inv-loop words memory top room₀ room = (room ≤ top) × (roomsFrom (part words 32 21) memory 0 21 ≡ roomsFrom (part words 32 21) memory room (21 - room))
+Inv-loop half memory top room₀ room = (room ≤ top) × (roomsFrom half memory 0 21 ≡ roomsFrom half memory room (21 - room))
 
 abbrev μ-loop : tie.MeasureT-loop
-μ-loop words memory top room₀ room = top - room
+μ-loop half memory top room₀ room = top - room
 
 none-half-requires : tie.Need-none-half-requires Inv-loop μ-loop
 none-half-requires c κs = search needs
@@ -29,18 +28,28 @@ rooms-used-requires c κs = search needs
 loop-holds : tie.Need-loop-holds Inv-loop μ-loop
 loop-holds c = (omega arith, refl)
 
-room-quiet-requires : tie.Need-room-quiet-requires Inv-loop μ-loop
-room-quiet-requires c κs =
+mul-room-sound : tie.Need-mul-room-sound Inv-loop μ-loop
+mul-room-sound c =
     let most = c .before .before .rooms-used .ensures .0 in
+    search (needs, most)
+
+shared-slice-read-room-sound : tie.Need-shared-slice-read-room-sound Inv-loop μ-loop
+shared-slice-read-room-sound c =
+    let most = c .before .before .before .rooms-used .ensures .0 in
+    search (needs, most)
+
+room-sound-requires : tie.Need-room-sound-requires Inv-loop μ-loop
+room-sound-requires c κs =
+    let most = c .before .before .before .rooms-used .ensures .0 in
     search (needs, most)
 
 returns-2 : tie.Need-returns-2 Inv-loop μ-loop
 returns-2 c =
-    let a = c .before .before .before .before .before .before .before .before .before .args in
-    let loop = c .before .before .before .loop in
-    let most = c .before .before .before .before .rooms-used .ensures .0 in
-    let here = sym (c .before .room-quiet .ensures) ∙ not-true _ (c .if2 .taken) in
-    sym (loop .inv .1 ∙ rooms-turn (part (a .words .now) 32 21) (a .memory .now) (loop .room) (21 - loop .room) (21 - (loop .room + 1)) (omega (arith, most, c .before .before .loop-test .taken)) ∙ rw here)
+    let a = c .before .before .before .before .before .before .before .before .before .before .args in
+    let loop = c .before .before .before .before .loop in
+    let most = c .before .before .before .before .before .rooms-used .ensures .0 in
+    let here = sym (c .before .room-sound .ensures) ∙ not-true _ (c .if2 .taken) in
+    sym (loop .inv .1 ∙ rooms-turn (a .half .now) (a .memory .now) (loop .room) (21 - loop .room) (21 - (loop .room + 1)) (omega (arith, most, c .before .before .before .loop-test .taken)) ∙ rw here)
 
 add-room : tie.Need-add-room Inv-loop μ-loop
 add-room c = search needs
@@ -50,11 +59,11 @@ loop-less c = search needs
 
 loop-again : tie.Need-loop-again Inv-loop μ-loop
 loop-again c =
-    let a = c .before .before .before .before .before .before .before .before .before .args in
-    let loop = c .before .before .before .loop in
-    let most = c .before .before .before .before .rooms-used .ensures .0 in
-    let here = sym (c .before .room-quiet .ensures) ∙ not-false _ (c .if2 .left) in
-    (omega (arith, c .before .before .loop-test .taken), loop .inv .1 ∙ rooms-turn (part (a .words .now) 32 21) (a .memory .now) (loop .room) (21 - loop .room) (21 - (loop .room + 1)) (omega (arith, most, c .before .before .loop-test .taken)) ∙ rw here)
+    let a = c .before .before .before .before .before .before .before .before .before .before .args in
+    let loop = c .before .before .before .before .loop in
+    let most = c .before .before .before .before .before .rooms-used .ensures .0 in
+    let here = sym (c .before .room-sound .ensures) ∙ not-false _ (c .if2 .left) in
+    (omega (arith, c .before .before .before .loop-test .taken), loop .inv .1 ∙ rooms-turn (a .half .now) (a .memory .now) (loop .room) (21 - loop .room) (21 - (loop .room + 1)) (omega (arith, most, c .before .before .before .loop-test .taken)) ∙ rw here)
 
 returns-3 : tie.Need-returns-3 Inv-loop μ-loop
 returns-3 c =
@@ -62,7 +71,7 @@ returns-3 c =
     let loop = c .before .loop in
     let used = c .before .before .rooms-used in
     let at : loop .room ≡ used .result = omega (arith, loop .inv .0, c .loop-test .left) in
-    sym (loop .inv .1 ∙ ap (λ (r : ℕ). roomsFrom (part (a .words .now) 32 21) (a .memory .now) r (21 - r)) at ∙ used .ensures .1 (a .memory .now))
+    sym (loop .inv .1 ∙ ap (λ (r : ℕ). roomsFrom (a .half .now) (a .memory .now) r (21 - r)) at ∙ used .ensures .1 (a .memory .now))
 
 pub rooms-quiet-spec : {M : Type 1} → statement M
 rooms-quiet-spec =
@@ -74,7 +83,9 @@ rooms-quiet-spec =
     returns
     rooms-used-requires
     loop-holds
-    room-quiet-requires
+    mul-room-sound
+    shared-slice-read-room-sound
+    room-sound-requires
     returns-2
     add-room
     loop-less

@@ -11,7 +11,7 @@ none-listed-requires : tie.Need-none-listed-requires
 none-listed-requires c κs = search needs
 
 returns : tie.Need-returns
-returns c = (omega arith, λ m. listed-rooms (c .before .before .before .args .words .now) m (sym (c .before .none-listed .ensures) ∙ c .if1 .taken))
+returns c = (omega arith, λ m. listed-rooms (c .before .before .before .args .half .now) m (sym (c .before .none-listed .ensures) ∙ c .if1 .taken))
 
 returns-2 : tie.Need-returns-2
 unfolding roomsFrom

@@ -4,9 +4,13 @@ use mathlib.Core.Path.{sym, _∙_}
 use mathlib.Core.Bool.{_&&_}
 use Prim.Native.Nat.{_≤_}
 use lib.Dec.{leb, eqb}
+use native.Mathlib.Omega.{arith}
 use lib.ListN.{getD}
+use denote.Ref.{now}
 use borrow.Author.Tests.{leb-true, not-true, not-false}
 use Rattle.lists.proofs.Tests.{and-right}
+use Rattle.lists.specs.Places.{part}
+use Rattle.lists.proofs.Places.{part-length}
 use Rattle.arrays.specs.Lent.{stateIn}
 use Rattle.quiet.specs.Quiet.{stateQuiet}
 use Rattle.quiet.proofs.Turns.{sync-same}
@@ -46,53 +50,80 @@ returns-2 c =
       sym (c .before .latest-quiet .ensures) ∙ not-true _ (c .if2 .taken),
     )
 
+sub-rooms-quiet : tie.Need-sub-rooms-quiet
+sub-rooms-quiet c = search needs
+
+part-rooms-quiet-start : tie.Need-part-rooms-quiet-start
+part-rooms-quiet-start c = search needs
+
+part-rooms-quiet-end : tie.Need-part-rooms-quiet-end
+part-rooms-quiet-end c = search needs
+
 rooms-quiet-requires : tie.Need-rooms-quiet-requires
-rooms-quiet-requires c κs = search needs
+unfolding part
+rooms-quiet-requires c κs =
+    let start = c .before .before .before .before .before .before .before .before .before .before .before .before in
+    (part-length (now (start .args .words)) 32 21 (omega (arith, start .pre .1)), start .pre .2)
 
 returns-3 : tie.Need-returns-3
-unfolding stateQuiet stateIn
+unfolding stateQuiet stateIn part
 returns-3 c =
-    let words = c .before .before .before .before .before .before .before .before .before .before .before .before .before .args .words .now in
+    let words = c .before .before .before .before .before .before .before .before .before .before .before .before .before .before .args .words .now in
     rw (
-      sym (sync-same (getD words 53 0) (getD words 54 0) (getD words 55 0)) ∙ sym (c .before .before .before .before .before .before .sync-quiet .ensures) ∙ not-false _ (c .before .before .before .before .before .if1 .left),
-      sym (c .before .before .before .latest-quiet .ensures) ∙ not-false _ (c .before .before .if2 .left),
+      sym (sync-same (getD words 53 0) (getD words 54 0) (getD words 55 0)) ∙ sym (c .before .before .before .before .before .before .before .sync-quiet .ensures) ∙ not-false _ (c .before .before .before .before .before .before .if1 .left),
+      sym (c .before .before .before .before .latest-quiet .ensures) ∙ not-false _ (c .before .before .before .if2 .left),
       sym (c .before .rooms-quiet .ensures) ∙ not-true _ (c .if3 .taken),
     )
 
+sub-tables-quiet : tie.Need-sub-tables-quiet
+sub-tables-quiet c = search needs
+
+part-tables-quiet-start : tie.Need-part-tables-quiet-start
+part-tables-quiet-start c = search needs
+
+part-tables-quiet-end : tie.Need-part-tables-quiet-end
+part-tables-quiet-end c = search needs
+
+shared-slice-read-tables-quiet : tie.Need-shared-slice-read-tables-quiet
+shared-slice-read-tables-quiet c = search needs
+
 tables-quiet-requires : tie.Need-tables-quiet-requires
-tables-quiet-requires c κs = search needs
+unfolding part
+tables-quiet-requires c κs =
+    let start = c .before .before .before .before .before .before .before .before .before .before .before .before .before .before .before .before in
+    part-length (now (start .args .times)) 1 5 (omega (arith, start .pre .0))
 
 returns-4 : tie.Need-returns-4
-unfolding stateQuiet stateIn
+unfolding stateQuiet stateIn part
 returns-4 c =
-    let words = c .before .before .before .before .before .before .before .before .before .before .before .before .before .before .before .args .words .now in
+    let words = c .before .before .before .before .before .before .before .before .before .before .before .before .before .before .before .before .before .before .args .words .now in
     rw (
-      sym (sync-same (getD words 53 0) (getD words 54 0) (getD words 55 0)) ∙ sym (c .before .before .before .before .before .before .before .before .sync-quiet .ensures) ∙ not-false _ (c .before .before .before .before .before .before .before .if1 .left),
-      sym (c .before .before .before .before .before .latest-quiet .ensures) ∙ not-false _ (c .before .before .before .before .if2 .left),
-      sym (c .before .before .before .rooms-quiet .ensures) ∙ not-false _ (c .before .before .if3 .left),
+      sym (sync-same (getD words 53 0) (getD words 54 0) (getD words 55 0)) ∙ sym (c .before .before .before .before .before .before .before .before .before .before .before .sync-quiet .ensures) ∙ not-false _ (c .before .before .before .before .before .before .before .before .before .before .if1 .left),
+      sym (c .before .before .before .before .before .before .before .before .latest-quiet .ensures) ∙ not-false _ (c .before .before .before .before .before .before .before .if2 .left),
+      sym (c .before .before .before .before .before .rooms-quiet .ensures) ∙ not-false _ (c .before .before .before .before .if3 .left),
       sym (c .before .tables-quiet .ensures) ∙ not-true _ (c .if4 .taken),
     )
 
 cast-entries-quiet : tie.Need-cast-entries-quiet
 cast-entries-quiet c =
-    let words = c .before .before .before .before .before .before .before .before .before .before .before .before .before .before .before .args .words .now in
-    let few : getD words 55 0 ≤ 16 = leb-true (getD words 55 0) 16 (and-right (eqb (getD words 53 0) 0 && eqb (getD words 54 0) 0) (leb (getD words 55 0) 16) (sym (c .before .before .before .before .before .before .before .before .sync-quiet .ensures) ∙ not-false _ (c .before .before .before .before .before .before .before .if1 .left))) in
+    let words = c .before .before .before .before .before .before .before .before .before .before .before .before .before .before .before .before .before .before .args .words .now in
+    let few : getD words 55 0 ≤ 16 = leb-true (getD words 55 0) 16 (and-right (eqb (getD words 53 0) 0 && eqb (getD words 54 0) 0) (leb (getD words 55 0) 16) (sym (c .before .before .before .before .before .before .before .before .before .before .before .sync-quiet .ensures) ∙ not-false _ (c .before .before .before .before .before .before .before .before .before .before .if1 .left))) in
     search (needs, few)
 
 entries-quiet-requires : tie.Need-entries-quiet-requires
 entries-quiet-requires c κs =
-    let words = c .before .before .before .before .before .before .before .before .before .before .before .before .before .before .before .args .words .now in
-    let few : getD words 55 0 ≤ 16 = leb-true (getD words 55 0) 16 (and-right (eqb (getD words 53 0) 0 && eqb (getD words 54 0) 0) (leb (getD words 55 0) 16) (sym (c .before .before .before .before .before .before .before .before .sync-quiet .ensures) ∙ not-false _ (c .before .before .before .before .before .before .before .if1 .left))) in
+    let words = c .before .before .before .before .before .before .before .before .before .before .before .before .before .before .before .before .before .before .args .words .now in
+    let few : getD words 55 0 ≤ 16 = leb-true (getD words 55 0) 16 (and-right (eqb (getD words 53 0) 0 && eqb (getD words 54 0) 0) (leb (getD words 55 0) 16) (sym (c .before .before .before .before .before .before .before .before .before .before .before .sync-quiet .ensures) ∙ not-false _ (c .before .before .before .before .before .before .before .before .before .before .if1 .left))) in
     search (needs, few)
 
 returns-5 : tie.Need-returns-5
-unfolding stateQuiet stateIn
+unfolding stateQuiet stateIn part
 returns-5 c =
-    let words = c .before .before .before .before .before .before .before .before .before .before .before .before .before .before .before .before .args .words .now in
+    let words = c .before .before .before .before .before .before .before .before .before .before .before .before .before .before .before .before .before .before .before .args .words .now in
     rw (
-      sym (sync-same (getD words 53 0) (getD words 54 0) (getD words 55 0)) ∙ sym (c .before .before .before .before .before .before .before .before .before .sync-quiet .ensures) ∙ not-false _ (c .before .before .before .before .before .before .before .before .if1 .left),
-      sym (c .before .before .before .before .before .before .latest-quiet .ensures) ∙ not-false _ (c .before .before .before .before .before .if2 .left),
-      sym (c .before .before .before .before .rooms-quiet .ensures) ∙ not-false _ (c .before .before .before .if3 .left),
+      sym (sync-same (getD words 53 0) (getD words 54 0) (getD words 55 0)) ∙ sym (c .before .before .before .before .before .before .before .before .before .before .before .before .sync-quiet .ensures) ∙ not-false _ (c .before .before .before .before .before .before .before .before .before .before .before .if1 .left),
+      sym (c .before .before .before .before .before .before .before .before .before .latest-quiet .ensures) ∙ not-false _ (c .before .before .before .before .before .before .before .before .if2 .left),
+      sym (c .before .before .before .before .before .before .rooms-quiet .ensures) ∙ not-false _ (c .before .before .before .before .before .if3 .left),
       sym (c .before .before .tables-quiet .ensures) ∙ not-false _ (c .before .if4 .left),
     )
     (c .entries-quiet .ensures)
@@ -109,8 +140,15 @@ state-quiet-spec =
     shared-slice-read-latest-quiet
     latest-quiet-requires
     returns-2
+    sub-rooms-quiet
+    part-rooms-quiet-start
+    part-rooms-quiet-end
     rooms-quiet-requires
     returns-3
+    sub-tables-quiet
+    part-tables-quiet-start
+    part-tables-quiet-end
+    shared-slice-read-tables-quiet
     tables-quiet-requires
     returns-4
     cast-entries-quiet

@@ -3,12 +3,10 @@ use borrow.Author.Needs.{needs}
 use mathlib.Core.Path.{sym, _∙_}
 use borrow.Author.Tests.{not-true, not-false}
 use Rattle.quiet.specs.Quiet.{tablesQuiet}
-use Rattle.quiet.proofs.Turns.{five, cond-same}
+use Rattle.quiet.proofs.Turns.{cond-same}
+use Rattle.quiet.proofs.Values.{five-all}
 use Rattle.quiet.proofs.tables_quiet.Statement.{statement}
 use Rattle.quiet.proofs.tables_quiet.Tie as tie
-
-shared-slice-read-p : tie.Need-shared-slice-read-p
-shared-slice-read-p c = search needs
 
 shared-slice-read-gap-quiet : tie.Need-shared-slice-read-gap-quiet
 shared-slice-read-gap-quiet c = search needs
@@ -20,7 +18,7 @@ returns : tie.Need-returns
 unfolding tablesQuiet
 returns c =
     rw (
-      five _ (c .before .before .before .before .before .pre),
+      five-all (c .before .before .before .before .args .since .now) (c .before .before .before .before .pre),
       sym (c .before .gap-quiet .ensures) ∙ not-true _ (c .if1 .taken),
     )
 
@@ -34,7 +32,7 @@ returns-2 : tie.Need-returns-2
 unfolding tablesQuiet
 returns-2 c =
     rw (
-      five _ (c .before .before .before .before .before .before .before .before .pre),
+      five-all (c .before .before .before .before .before .before .before .args .since .now) (c .before .before .before .before .before .before .before .pre),
       sym (c .before .before .before .before .gap-quiet .ensures) ∙ not-false _ (c .before .before .before .if1 .left),
       sym (c .before .gap-quiet2 .ensures) ∙ not-true _ (c .if2 .taken),
     )
@@ -49,7 +47,7 @@ returns-3 : tie.Need-returns-3
 unfolding tablesQuiet
 returns-3 c =
     rw (
-      five _ (c .before .before .before .before .before .before .before .before .before .before .before .pre),
+      five-all (c .before .before .before .before .before .before .before .before .before .before .args .since .now) (c .before .before .before .before .before .before .before .before .before .before .pre),
       sym (c .before .before .before .before .before .before .before .gap-quiet .ensures) ∙ not-false _ (c .before .before .before .before .before .before .if1 .left),
       sym (c .before .before .before .before .gap-quiet2 .ensures) ∙ not-false _ (c .before .before .before .if2 .left),
       sym (c .before .gap-quiet3 .ensures) ∙ not-true _ (c .if3 .taken),
@@ -65,7 +63,7 @@ returns-4 : tie.Need-returns-4
 unfolding tablesQuiet
 returns-4 c =
     rw (
-      five _ (c .before .before .before .before .before .before .before .before .before .before .before .before .before .before .pre),
+      five-all (c .before .before .before .before .before .before .before .before .before .before .before .before .before .args .since .now) (c .before .before .before .before .before .before .before .before .before .before .before .before .before .pre),
       sym (c .before .before .before .before .before .before .before .before .before .before .gap-quiet .ensures) ∙ not-false _ (c .before .before .before .before .before .before .before .before .before .if1 .left),
       sym (c .before .before .before .before .before .before .before .gap-quiet2 .ensures) ∙ not-false _ (c .before .before .before .before .before .before .if2 .left),
       sym (c .before .before .before .before .gap-quiet3 .ensures) ∙ not-false _ (c .before .before .before .if3 .left),
@@ -82,7 +80,7 @@ returns-5 : tie.Need-returns-5
 unfolding tablesQuiet
 returns-5 c =
     rw (
-      five _ (c .before .before .before .before .before .before .before .before .before .before .before .before .before .before .before .before .pre),
+      five-all (c .before .before .before .before .before .before .before .before .before .before .before .before .before .before .before .args .since .now) (c .before .before .before .before .before .before .before .before .before .before .before .before .before .before .before .pre),
       sym (c .before .before .before .before .before .before .before .before .before .before .before .before .gap-quiet .ensures) ∙ not-false _ (c .before .before .before .before .before .before .before .before .before .before .before .if1 .left),
       sym (c .before .before .before .before .before .before .before .before .before .gap-quiet2 .ensures) ∙ not-false _ (c .before .before .before .before .before .before .before .before .if2 .left),
       sym (c .before .before .before .before .before .before .gap-quiet3 .ensures) ∙ not-false _ (c .before .before .before .before .before .if3 .left),
@@ -94,7 +92,6 @@ pub tables-quiet-spec : {M : Type 1} → statement M
 tables-quiet-spec =
     tie.close
     (tie.spec
-    shared-slice-read-p
     shared-slice-read-gap-quiet
     gap-quiet-requires
     returns

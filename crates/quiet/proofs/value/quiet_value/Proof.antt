@@ -1,11 +1,8 @@
 -- `quiet::value/quiet_value` meets its contract. Assumes nothing.
 use borrow.Author.Needs.{needs}
-use mathlib.Core.Path.{refl, sym, ap, _∙_}
+use mathlib.Core.Path.{refl, sym, _∙_}
 use native.Mathlib.Omega.{arith}
 use borrow.Author.Tests.{not-true, not-false}
-use Rattle.header.specs.declared.Header.{Header}
-use Rattle.header.specs.Header.{headerOf}
-use Rattle.quiet.specs.Quiet.{stateQuiet}
 use Rattle.quiet.proofs.Turns.{packet-lengths}
 use Rattle.quiet.proofs.value.quiet_value.Statement.{statement}
 use Rattle.quiet.proofs.value.quiet_value.Tie as tie
@@ -24,14 +21,9 @@ same-length c = search needs
 
 returns : tie.Need-returns
 returns c =
-    let sizes = c .before .before .before .sizes .ensures in
-    let loud = sym (c .before .packet-quiet .ensures) ∙ not-true _ (c .if1 .taken) in
+    let sizes = c .before .before .before .before .sizes .ensures in
+    let loud = sym (c .before .before .packet-quiet .ensures .seen) ∙ not-true _ (c .if1 .taken) in
     (rw loud, refl, omega (arith, sizes .1), omega (arith, sizes .2))
-
-read-requires : tie.Need-read-requires
-read-requires c κs =
-    let a = c .before .before .before .before .before .before .before .before .before .args in
-    packet-lengths (a .t) (a .packet .now) (a .counters .now) (a .room) (sym (c .before .packet-quiet .ensures) ∙ not-false _ (c .if1 .left)) .0
 
 state-quiet-requires : tie.Need-state-quiet-requires
 state-quiet-requires c κs = search needs
@@ -40,28 +32,31 @@ same-length-2 : tie.Need-same-length-2
 same-length-2 c = search needs
 
 returns-2 : tie.Need-returns-2
-unfolding headerOf
 returns-2 c =
-    let a = c .before .before .before .before .before .before .before .before .before .before .before .before .before .args in
     let sizes = c .before .before .before .before .before .before .before .sizes .ensures in
-    let loud = ap (λ (h : Header). stateQuiet (a .state) (a .memory .now) (a .t) (h .pid)) (sym (c .before .before .before .read .ensures .0)) ∙ sym (c .before .state-quiet .ensures) ∙ not-true _ (c .if2 .taken) in
-    (rw (sym (c .before .before .before .before .before .packet-quiet .ensures) ∙ not-false _ (c .before .before .before .before .if1 .left), loud), refl, omega (arith, sizes .1), omega (arith, sizes .2))
+    let glance = c .before .before .before .before .before .packet-quiet .ensures in
+    let seen = sym (glance .seen) ∙ not-false _ (c .before .before .before .if1 .left) in
+    (rw (seen, sym (glance .pid seen), sym (c .before .state-quiet .ensures) ∙ not-true _ (c .if2 .taken)), refl, omega (arith, sizes .1), omega (arith, sizes .2))
 
-count-packet-requires : tie.Need-count-packet-requires
-count-packet-requires c κs =
+cast-pid : tie.Need-cast-pid
+cast-pid c = search needs
+
+slice-write-counters : tie.Need-slice-write-counters
+slice-write-counters c =
     let a = c .before .before .before .before .before .before .before .before .before .before .before .before .before .before .args in
-    packet-lengths (a .t) (a .packet .now) (a .counters .now) (a .room) (sym (c .before .before .before .before .before .before .packet-quiet .ensures) ∙ not-false _ (c .before .before .before .before .before .if1 .left))
+    let glance = c .before .before .before .before .before .before .packet-quiet .ensures in
+    let seen = sym (glance .seen) ∙ not-false _ (c .before .before .before .before .if1 .left) in
+    omega (arith, glance .small, packet-lengths (a .t) (a .packet .now) (a .counters .now) (a .room) seen .1)
 
 same-length-3 : tie.Need-same-length-3
 same-length-3 c = search needs
 
 returns-3 : tie.Need-returns-3
-unfolding headerOf
 returns-3 c =
-    let a = c .before .before .before .before .before .before .before .before .before .before .before .before .before .before .before .before .before .args in
-    let sizes = c .before .before .before .before .before .before .before .before .before .before .before .sizes .ensures in
-    let quiet = ap (λ (h : Header). stateQuiet (a .state) (a .memory .now) (a .t) (h .pid)) (sym (c .before .before .before .before .before .before .before .read .ensures .0)) ∙ sym (c .before .before .before .before .before .state-quiet .ensures) ∙ not-false _ (c .before .before .before .before .if2 .left) in
-    (rw (sym (c .before .before .before .before .before .before .before .before .before .packet-quiet .ensures) ∙ not-false _ (c .before .before .before .before .before .before .before .before .if1 .left), quiet), c .before .before .count-packet .ensures, omega (arith, sizes .1), omega (arith, sizes .2))
+    let sizes = c .before .before .before .before .before .before .before .before .sizes .ensures in
+    let glance = c .before .before .before .before .before .before .packet-quiet .ensures in
+    let seen = sym (glance .seen) ∙ not-false _ (c .before .before .before .before .if1 .left) in
+    (rw (seen, sym (glance .pid seen), sym (c .before .before .state-quiet .ensures) ∙ not-false _ (c .before .if2 .left)), glance .table seen, omega (arith, sizes .1), omega (arith, sizes .2))
 
 pub quiet-value-spec : {M : Type 1} → statement M
 quiet-value-spec =
@@ -72,10 +67,10 @@ quiet-value-spec =
     packet-quiet-requires
     same-length
     returns
-    read-requires
     state-quiet-requires
     same-length-2
     returns-2
-    count-packet-requires
+    cast-pid
+    slice-write-counters
     same-length-3
     returns-3)

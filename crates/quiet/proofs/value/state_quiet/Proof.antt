@@ -27,6 +27,12 @@ returns-2 c =
       sym (c .before .latest-quiet .ensures) ∙ not-true _ (c .if2 .taken),
     )
 
+sizes-requires : tie.Need-sizes-requires
+sizes-requires c κs = search needs
+
+slice-aggregate-rooms-quiet : tie.Need-slice-aggregate-rooms-quiet
+slice-aggregate-rooms-quiet c = search needs
+
 rooms-quiet-requires : tie.Need-rooms-quiet-requires
 rooms-quiet-requires c κs = search needs
 
@@ -34,10 +40,13 @@ returns-3 : tie.Need-returns-3
 unfolding stateQuiet
 returns-3 c =
     rw (
-      sym (c .before .before .before .before .before .before .sync-quiet .ensures) ∙ not-false _ (c .before .before .before .before .before .if1 .left),
-      sym (c .before .before .before .before .latest-quiet .ensures) ∙ not-false _ (c .before .before .before .if2 .left),
-      sym (c .before .rooms-quiet .ensures .0) ∙ not-true _ (c .if3 .taken),
+      sym (c .before .before .before .before .before .before .before .before .before .sync-quiet .ensures) ∙ not-false _ (c .before .before .before .before .before .before .before .before .if1 .left),
+      sym (c .before .before .before .before .before .before .before .latest-quiet .ensures) ∙ not-false _ (c .before .before .before .before .before .before .if2 .left),
+      sym (c .before .rooms-quiet .ensures) ∙ not-true _ (c .if3 .taken),
     )
+
+slice-aggregate-tables-quiet : tie.Need-slice-aggregate-tables-quiet
+slice-aggregate-tables-quiet c = search needs
 
 tables-quiet-requires : tie.Need-tables-quiet-requires
 tables-quiet-requires c κs = search needs
@@ -46,26 +55,24 @@ returns-4 : tie.Need-returns-4
 unfolding stateQuiet
 returns-4 c =
     rw (
-      sym (c .before .before .before .before .before .before .before .before .before .sync-quiet .ensures) ∙ not-false _ (c .before .before .before .before .before .before .before .before .if1 .left),
-      sym (c .before .before .before .before .before .before .before .latest-quiet .ensures) ∙ not-false _ (c .before .before .before .before .before .before .if2 .left),
-      sym (c .before .before .before .before .rooms-quiet .ensures .0) ∙ not-false _ (c .before .before .before .if3 .left),
+      sym (c .before .before .before .before .before .before .before .before .before .before .before .before .sync-quiet .ensures) ∙ not-false _ (c .before .before .before .before .before .before .before .before .before .before .before .if1 .left),
+      sym (c .before .before .before .before .before .before .before .before .before .before .latest-quiet .ensures) ∙ not-false _ (c .before .before .before .before .before .before .before .before .before .if2 .left),
+      sym (c .before .before .before .before .rooms-quiet .ensures) ∙ not-false _ (c .before .before .before .if3 .left),
       sym (c .before .tables-quiet .ensures) ∙ not-true _ (c .if4 .taken),
     )
 
 entries-quiet-requires : tie.Need-entries-quiet-requires
 entries-quiet-requires c κs =
-    let core = c .before .before .before .before .before .before .before .before .before .before .before .before .args .state .core in
-    leb-true (core .count) 16
-    (and-right (not (core .lost) && eqb (core .run) 0) (leb (core .count) 16)
-    (sym (c .before .before .before .before .before .before .before .before .before .before .sync-quiet .ensures) ∙ not-false _ (c .before .before .before .before .before .before .before .before .before .if1 .left)))
+    let core = c .before .before .before .before .before .before .before .before .before .before .before .before .before .before .before .args .state .core in
+    leb-true (core .count) 16 (and-right (not (core .lost) && eqb (core .run) 0) (leb (core .count) 16) (sym (c .before .before .before .before .before .before .before .before .before .before .before .before .before .sync-quiet .ensures) ∙ not-false _ (c .before .before .before .before .before .before .before .before .before .before .before .before .if1 .left)))
 
 returns-5 : tie.Need-returns-5
 unfolding stateQuiet
 returns-5 c =
     rw (
-      sym (c .before .before .before .before .before .before .before .before .before .before .before .sync-quiet .ensures) ∙ not-false _ (c .before .before .before .before .before .before .before .before .before .before .if1 .left),
-      sym (c .before .before .before .before .before .before .before .before .before .latest-quiet .ensures) ∙ not-false _ (c .before .before .before .before .before .before .before .before .if2 .left),
-      sym (c .before .before .before .before .before .before .rooms-quiet .ensures .0) ∙ not-false _ (c .before .before .before .before .before .if3 .left),
+      sym (c .before .before .before .before .before .before .before .before .before .before .before .before .before .before .sync-quiet .ensures) ∙ not-false _ (c .before .before .before .before .before .before .before .before .before .before .before .before .before .if1 .left),
+      sym (c .before .before .before .before .before .before .before .before .before .before .before .before .latest-quiet .ensures) ∙ not-false _ (c .before .before .before .before .before .before .before .before .before .before .before .if2 .left),
+      sym (c .before .before .before .before .before .before .rooms-quiet .ensures) ∙ not-false _ (c .before .before .before .before .before .if3 .left),
       sym (c .before .before .before .tables-quiet .ensures) ∙ not-false _ (c .before .before .if4 .left),
     )
     (c .entries-quiet .ensures)
@@ -78,8 +85,11 @@ state-quiet-spec =
     returns
     latest-quiet-requires
     returns-2
+    sizes-requires
+    slice-aggregate-rooms-quiet
     rooms-quiet-requires
     returns-3
+    slice-aggregate-tables-quiet
     tables-quiet-requires
     returns-4
     entries-quiet-requires
