@@ -1,39 +1,33 @@
 -- `crc::crc_word` meets its contract. Assumes nothing.
 use borrow.Author.Needs.{needs}
-use mathlib.Core.Path.{ap, _∙_}
-use Prim.Native.Nat.{ℕ}
+use Prim.Native.Nat.{ℕ, _%_, _^_, _<_}
 use native.Mathlib.Omega.{arith}
-use Rattle.crc.specs.Crc.{crcFeed, bits}
-use Rattle.crc.proofs.Register.{word-zeros}
+use lib.Bits.{bitXor, xor-lt}
+use Rattle.crc.proofs.Wide.{word-folded}
 use Rattle.crc.proofs.crc_word.Statement.{statement}
 use Rattle.crc.proofs.crc_word.Tie as tie
 
-eight-zeros-requires : tie.Need-eight-zeros-requires
-eight-zeros-requires c κs = search needs
+sum-lt : (u x : ℕ) → x < 2 ^ 32 → bitXor (u % 2 ^ 32) x < 2 ^ 32
+sum-lt u x h = xor-lt 32 (u % 2 ^ 32) x (omega arith) h
 
-eight-zeros-requires-2 : tie.Need-eight-zeros-requires-2
-eight-zeros-requires-2 c κs = search needs
+cast-high : tie.Need-cast-high
+cast-high c = search needs
 
-eight-zeros-requires-3 : tie.Need-eight-zeros-requires-3
-eight-zeros-requires-3 c κs = search needs
+cast-low : tie.Need-cast-low
+cast-low c = search needs
 
-eight-zeros-requires-4 : tie.Need-eight-zeros-requires-4
-eight-zeros-requires-4 c κs = search needs
+fold-requires : tie.Need-fold-requires
+fold-requires c κs = search needs
+
+cast-result : tie.Need-cast-result
+cast-result c = omega (arith, sum-lt (c .before .args .u) (c .before .args .x) (omega arith))
+
+mul-result : tie.Need-mul-result
+mul-result c = omega (arith, sum-lt (c .before .args .u) (c .before .args .x) (omega arith))
 
 returns : tie.Need-returns
-returns c =
-    let a = c .before .before .before .before .args in
-    let zeros : ℕ → ℕ = λ z. crcFeed z (bits 8 0) in
-    c .eight-zeros4 .ensures
-    ∙ ap zeros (c .before .eight-zeros3 .ensures ∙ ap zeros (c .before .before .eight-zeros2 .ensures ∙ ap zeros (c .before .before .before .eight-zeros .ensures)))
-    ∙ word-zeros (a .c) (a .x) (omega arith) (omega arith)
+returns c = word-folded (c .before .args .u) (c .before .args .x) (c .fold .result) (omega arith) (omega arith) (omega arith) (c .fold .ensures)
 
 pub crc-word-spec : {M : Type 1} → statement M
 crc-word-spec =
-    tie.close
-    (tie.spec
-    eight-zeros-requires
-    eight-zeros-requires-2
-    eight-zeros-requires-3
-    eight-zeros-requires-4
-    returns)
+    tie.close (tie.spec cast-high cast-low fold-requires cast-result mul-result returns)

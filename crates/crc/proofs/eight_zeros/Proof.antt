@@ -15,7 +15,7 @@ abbrev μ-loop : tie.MeasureT-loop
 μ-loop c r₀ k₀ r k = 8 - k
 
 loop-holds : tie.Need-loop-holds Inv-loop μ-loop
-loop-holds c = (omega arith, sym (zeros-shifted (c .args .c)))
+loop-holds c = (omega arith, sym (zeros-shifted 8 (c .args .c)))
 
 crc-shift-requires : tie.Need-crc-shift-requires Inv-loop μ-loop
 crc-shift-requires c κs = search needs
