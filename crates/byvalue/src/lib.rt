@@ -1,5 +1,5 @@
 // The product's calls with the event list taken and handed back by value, for programs: a covered function
-// can hold a list of records, but not lend it. Lists of 96 records, the least that is accepted, and of 95.
+// can hold a list of records, but not lend it. A list has 96 records, the least that is accepted.
 use calls::Answer;
 use calls::State;
 use events::Event;
@@ -38,43 +38,6 @@ pub fn clock_96(state: State, time: u64, memory: &[u8; 24576], list: [Event; 96]
     let mut kept = list;
     let answer = probe::clock(state, time, memory, &mut kept);
     Held96 {
-        answer: answer,
-        list: kept,
-    }
-}
-
-pub struct Held95 {
-    pub answer: Answer,
-    pub list: [Event; 95],
-}
-
-// A packet call with a list of 95 records.
-pub fn packet_95(
-    state: State,
-    time: u64,
-    packet: &[u8],
-    counters: &mut [u8],
-    memory: &mut [u8; 24576],
-    list: [Event; 95],
-) -> Held95
-    ensures { λ r. ⌜ PacketDone (packetCall state time (now (packet .entry)) (now (counters .entry)) (now (memory .entry)) 95)
-        (r .answer) (now (counters .exit)) (now (memory .exit)) list (r .list) ⌝ }
-{
-    let mut kept = list;
-    let answer = probe::packet(state, time, packet, counters, memory, &mut kept);
-    Held95 {
-        answer: answer,
-        list: kept,
-    }
-}
-
-// A clock call with a list of 95 records.
-pub fn clock_95(state: State, time: u64, memory: &[u8; 24576], list: [Event; 95]) -> Held95
-    ensures { λ r. ⌜ ClockDone (clockCall state time (now (memory .entry)) 95) (r .answer) list (r .list) ⌝ }
-{
-    let mut kept = list;
-    let answer = probe::clock(state, time, memory, &mut kept);
-    Held95 {
         answer: answer,
         list: kept,
     }

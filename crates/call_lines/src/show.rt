@@ -22,7 +22,7 @@ pub(crate) fn hex(n: u64, digits: usize) {
 }
 
 // What the records hold before a call.
-pub fn mark() -> Event
+pub(crate) fn mark() -> Event
     ensures { λ r. ⌜ r ≡ marked ⌝ }
 {
     Event {
@@ -33,7 +33,7 @@ pub fn mark() -> Event
     }
 }
 
-pub fn is_mark(e: Event) -> bool
+fn is_mark(e: Event) -> bool
     ensures { λ r. ⌜ r ≡ isMarked e ⌝ }
 {
     if e.stamp != 7 {
@@ -59,7 +59,7 @@ fn event(e: Event) {
 }
 
 // The first n records, and whether the others are untouched.
-pub(crate) fn events(list: [Event; 96], n: usize) {
+pub fn events(list: [Event; 96], n: usize) {
     let mut untouched = true;
     for i in 0..96usize {
         let e = list[i];

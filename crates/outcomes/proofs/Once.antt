@@ -16,14 +16,11 @@ use Rattle.testdata.proofs.write_other.Reads as other-contract
 use Rattle.probe.proofs.open.Reads as open-contract
 use Rattle.byvalue.proofs.packet_96.Reads as packet-96
 use Rattle.byvalue.proofs.clock_96.Reads as clock-96
-use Rattle.byvalue.proofs.packet_95.Reads as packet-95
-use Rattle.byvalue.proofs.clock_95.Reads as clock-95
 use Rattle.textlog.proofs.start.Reads as start-contract
 use Rattle.textlog.proofs.begin.Reads as begin-contract
 use Rattle.textlog.proofs.feed.Reads as feed-contract
 use Rattle.textlog.proofs.finish.Reads as finish-contract
 use Rattle.byvalue.specs.declared.Held96.{Held96}
-use Rattle.byvalue.specs.declared.Held95.{Held95}
 use Rattle.textlog.specs.declared.Fed.{Fed}
 use Rattle.textlog.specs.Machine.{Feeding, fedAs}
 use Rattle.outcomes.specs.Once.{OneAnswer, OneOutcome}
@@ -45,8 +42,6 @@ pub record NoSecondOutcome : Type 0 where
   pub probe-clock : (κs : _) → OneOutcome (clockPromise κs) (λ r. r) (clockLeft κs)
   pub byvalue-packet-96 : (κs : _) → OneOutcome (packet-96.Post κs) (λ r. r) (λ s. now (s .1 .1 .1 .0) ∷ now (s .1 .1 .1 .1 .0) ∷ [])
   pub byvalue-clock-96 : (κs : _) → OneAnswer (clock-96.Post κs) (λ r. r)
-  pub byvalue-packet-95 : (κs : _) → OneOutcome (packet-95.Post κs) (λ r. r) (λ s. now (s .1 .1 .1 .0) ∷ now (s .1 .1 .1 .1 .0) ∷ [])
-  pub byvalue-clock-95 : (κs : _) → OneAnswer (clock-95.Post κs) (λ r. r)
   pub textlog-start : (κs : _) → OneAnswer (start-contract.Post κs) (λ r. r)
   pub textlog-begin : (κs : _) → OneOutcome (begin-contract.Post κs) (λ r. r) (λ s. now (s .0))
   -- counters, memory, text, out
@@ -60,9 +55,6 @@ left-alike x y p q r i = record { counters = p i; memory = q i; events = r i }
 
 held-96-alike : (x y : Held96) → x .answer ≡ y .answer → x .list ≡ y .list → x ≡ y
 held-96-alike x y p q i = record { answer = p i; list = q i }
-
-held-95-alike : (x y : Held95) → x .answer ≡ y .answer → x .list ≡ y .list → x ≡ y
-held-95-alike x y p q i = record { answer = p i; list = q i }
 
 fed-alike : (x y : Fed) → x .machine ≡ y .machine → x .taken ≡ y .taken → x .written ≡ y .written → x ≡ y
 fed-alike x y p q r i = record { machine = p i; taken = q i; written = r i }
@@ -93,9 +85,6 @@ no-second-outcome =
       byvalue-packet-96 = λ κs a r r′ s s′ p q.
           (held-96-alike r r′ (both (p .0) (q .0)) (both (p .3) (q .3)), places-2 (both (p .1) (q .1)) (both (p .2) (q .2)));
       byvalue-clock-96 = λ κs a r r′ s s′ p q. held-96-alike r r′ (both (p .0) (q .0)) (both (p .1) (q .1));
-      byvalue-packet-95 = λ κs a r r′ s s′ p q.
-          (held-95-alike r r′ (both (p .0) (q .0)) (both (p .3) (q .3)), places-2 (both (p .1) (q .1)) (both (p .2) (q .2)));
-      byvalue-clock-95 = λ κs a r r′ s s′ p q. held-95-alike r r′ (both (p .0) (q .0)) (both (p .1) (q .1));
       textlog-start = λ κs a r r′ s s′ p q. both p q;
       textlog-begin = λ κs a r r′ s s′ p q. (both (p .0 .place) (q .0 .place), both (p .0 .bytes) (q .0 .bytes));
       textlog-feed = λ κs a r r′ s s′ p q. fed-parts r r′ _ _ _ _ _ _ _ _ (both (p .0) (q .0));

@@ -91,21 +91,13 @@ impl Log {
 
 impl Answer {
     /// Stamp and cause decimal, fault and id four hex digits.
-    fn print_events(&self) {
+    pub fn print_events(&self) {
         let (events, others) = self.list.split_at(self.n);
         for event in events {
             println!("  {} {:04x} {} {:04x}", event.stamp, event.fault, event.cause, event.id);
         }
         if others.iter().any(|event| *event != MARK) {
             println!("  a record past the events is written");
-        }
-    }
-
-    pub fn untouched(&self) -> &'static str {
-        if self.list.iter().all(|event| *event == MARK) {
-            " list untouched"
-        } else {
-            ""
         }
     }
 }

@@ -1,4 +1,4 @@
-//! Refusals 1 to 6, forged states, and every byte of the counter table.
+//! Refusals 1, 2 and 4 to 6, forged states, and every byte of the counter table.
 
 use crate::lines::{filled, opening, Log, ABOVE, GREATEST};
 use songpigeon_reference::Entry;
@@ -34,9 +34,10 @@ fn sound() -> Log {
     log
 }
 
-fn packet_95(name: &str, log: &mut Log, packet: &[u8]) {
-    let answer = log.packet_call(ABOVE, packet, 95);
-    println!("{}{}{}{}", name, log.answered(&answer), log.digests(), answer.untouched());
+fn short_table(name: &str, log: &mut Log, packet: &[u8]) {
+    let answer = log.packet_call(ABOVE, packet, 96);
+    println!("{}{}{}", name, log.answered(&answer), log.digests());
+    answer.print_events();
 }
 
 fn packets() {
@@ -45,11 +46,10 @@ fn packets() {
     short.counters.pop();
     let mut packet = [71; 188];
     packet[1..4].copy_from_slice(&[0x01, 0x00, 0x10]);
-    packet_95("packet, all of 1 to 5", &mut short, &[71; 187]);
-    packet_95("packet, 189 bytes", &mut short, &[71; 189]);
-    packet_95("packet, no byte", &mut short, &[]);
-    packet_95("packet, 2 to 5", &mut short, &packet);
-    packet_95("packet, 3 to 5", &mut forged, &packet);
+    short_table("packet, 1, 2, 4 and 5", &mut short, &[71; 187]);
+    short_table("packet, 189 bytes", &mut short, &[71; 189]);
+    short_table("packet, no byte", &mut short, &[]);
+    short_table("packet, 2, 4 and 5", &mut short, &packet);
     forged.given("packet, 4 and 5", ABOVE, &packet, 0);
     forged.given("packet, 5 and 6", 999, &packet, 0);
     let mut sound = sound();
@@ -59,8 +59,6 @@ fn packets() {
 
 fn clocks() {
     let mut forged = sound().with(|state| (state.lost, state.run) = (true, 5));
-    let answer = forged.clock_call(ABOVE, 95);
-    println!("clock, 3 to 5{}{}", forged.answered(&answer), answer.untouched());
     forged.clock("clock, 4 and 5", ABOVE);
     forged.clock("clock, 5 and 6", 999);
     sound().clock("clock, 6", 999);
