@@ -1,15 +1,14 @@
 -- A call keeps the shape of the state: five gap starts, sixteen places, twenty-one half-built lengths, a run below 256 and a list of at most sixteen.
 -- Assumes nothing.
-use mathlib.Core.Path.{_≡_, refl, ap, _∙_}
+use mathlib.Core.Path.{_≡_, refl, _∙_}
 use mathlib.Core.Bool.{Bool, true, false, cond, _||_}
 use mathlib.Core.List.{List, [], _∷_}
-use Prim.Native.Nat.{ℕ, zero, suc, _+_, _≤_, _<_}
+use Prim.Native.Nat.{ℕ, zero, _≤_}
 use native.Mathlib.Omega.{arith}
 use lib.Dec.{eqb, leb}
-use lib.ListN.{length, getD, set, take, length-set, length-append, length-replicate}
-use lib.Seq.{length-take-le}
-use borrow.Author.Tests.{eqb-true, eqb-false, leb-true, leb-false}
-use Rattle.lists.proofs.Places.{front-length, part-length}
+use lib.ListN.{length, set, length-set, length-replicate}
+use borrow.Author.Tests.{eqb-true, eqb-false, leb-false}
+use Rattle.lists.proofs.Places.{front-length}
 use Rattle.lists.proofs.Tests.{or-false-right}
 use Rattle.watches.specs.declared.Entry.{Entry}
 use Rattle.watches.specs.Tables.{noEntry}
@@ -17,7 +16,7 @@ use Rattle.header.specs.Header.{rightSync, pidOf}
 use Rattle.sections.specs.Rooms.{roomCount, patRoom}
 use Rattle.programmes.specs.declared.Listed.{Listed}
 use Rattle.programmes.specs.Listing.{mostListed, numberOf, entryPid, entriesOf, isNumber, pidUnusable, sinceOf, madeBad, listedWith, entered, readOn, noneListed, listOf}
-use Rattle.programmes.specs.Places.{movedFrom, movedHalves}
+use Rattle.programmes.proofs.Moves.{halves-length}
 use Rattle.calls.specs.declared.Core.{Core}
 use Rattle.calls.specs.declared.State.{State}
 use Rattle.calls.specs.Cores.{Held, listed, withHalf, openedState}
@@ -26,8 +25,6 @@ use Rattle.calls.specs.Sound.{stateSound}
 use Rattle.calls.specs.Calls.{heldOf, packetRefusal, clockRefusal, packetCall, clockCall}
 use Rattle.calls.proofs.Moves.{Moves, packet-moves, sync-moves}
 use Rattle.calls.proofs.Accepted.{sound-parts, packet-accepted, packet-call-accepted, packet-call-refused, clock-call-accepted, clock-call-refused}
-use Rattle.arrays.specs.Lent.{timeCount, wordCount, runIn, entryIn, stateIn}
-use Rattle.arrays.proofs.Tabled.{tabled-length}
 use Rattle.arrays.proofs.Back.{Shaped}
 
 record Fit (c : Core) : Type 0 where
@@ -73,15 +70,6 @@ read-fit t old seen l (a ∷ b ∷ c ∷ d ∷ s) f =
 list-fit : (t : ℕ) (old : List Entry) (s : List ℕ) → ListFit (listOf t old s)
 unfolding listOf
 list-fit t old s = read-fit t old [] noneListed (entriesOf s) (record { count = omega arith; size = length-replicate {A = Entry} mostListed noEntry })
-
-moved-length : (old new : List Entry) (ns : List ℕ) (k left : ℕ) → length (movedFrom old new ns k left) ≡ left
-unfolding movedFrom
-moved-length old new ns k zero = refl
-moved-length old new ns k (suc left) = ap suc (moved-length old new ns (k + 1) left)
-
-halves-length : (old new : List Entry) (ns : List ℕ) → length ns ≡ 21 → length (movedHalves old new ns) ≡ 21
-halves-length old new ns h =
-    length-append (take 5 ns) (movedFrom old new ns 0 16) ∙ omega (arith, length-take-le 5 ns (omega (arith, h)), moved-length old new ns 0 16)
 
 -- A PACKET
 relisted-fit : (t : ℕ) (s : List ℕ) (h : Held) → Fit (h .core) → Fit (relisted t s h .core)
@@ -157,23 +145,4 @@ opened-shaped t =
       rooms = length-replicate {A = ℕ} 21 0;
       run = omega arith;
       count = omega arith;
-    }
-
--- THE STATE THAT TWO ARRAYS HOLD has the shape
-run-below : (w : ℕ) → runIn w ≤ 255
-run-below w = go (leb w 255) refl
-  where
-    go : (b : Bool) → leb w 255 ≡ b → cond b w 255 ≤ 255
-    go true e = leb-true w 255 e
-    go false e = omega arith
-
-pub held-shaped : (times words : List ℕ) → length times ≡ timeCount → length words ≡ wordCount → ((k : ℕ) → getD words k 0 < 65536) → Shaped (stateIn times words)
-unfolding stateIn
-held-shaped times words size-times size-words small =
-    record {
-      gaps = part-length times 1 5 (omega arith);
-      places = tabled-length (entryIn times words) 0 16;
-      rooms = part-length words 32 21 (omega arith);
-      run = run-below (getD words 54 0);
-      count = omega (arith, small 55);
     }

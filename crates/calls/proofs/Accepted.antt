@@ -13,7 +13,7 @@ use Rattle.lists.proofs.Tests.{and-left, and-right, and-intro, Order, below, fr
 use Rattle.watches.specs.declared.Entry.{Entry}
 use Rattle.watches.specs.Tables.{noEntry, latestTime}
 use Rattle.header.specs.Header.{packetSize}
-use Rattle.sections.specs.Rooms.{memorySize, roomCount, roomOfPlace, roomBase, greatestLength}
+use Rattle.sections.specs.Rooms.{memorySize, roomCount, roomBase, greatestLength}
 use Rattle.sections.proofs.Stages.{half-short, room-fits}
 use Rattle.programmes.specs.Listing.{mostListed, lowestPid}
 use Rattle.programmes.specs.Places.{halfAt}
@@ -42,10 +42,6 @@ open-accepted t counters e =
     let two = rung-right (eqb (length counters) tableSize) 1 (cond (timeSound t) 0 4) e in
     let four = rung-right (timeSound t) 3 0 (two .1) in
     record { table = eqb-true (length counters) tableSize (two .0); time = leb-true t latestTime (four .0) }
-
-pub accepted-open : (t : ℕ) (counters : List ℕ) → OpenAccepted t counters → openRefusal t counters ≡ 0
-unfolding openRefusal
-accepted-open t counters a = rw (eq-eqb (length counters) tableSize (a .table), le-leb t latestTime (a .time))
 
 -- A CLOCK CALL
 pub record ClockAccepted (s : State) (t : ℕ) (m : List ℕ) (records : ℕ) : Type 0 where
@@ -326,8 +322,3 @@ module _ (s : State) (m : List ℕ) (h : Sound s m) where
   pub half-below : length m ≡ memorySize → (r : ℕ) → r < roomCount → halfAt (s .core .half) r < greatestLength r + 3
   half-below e r l =
       half-short m (roomBase r) (greatestLength r) (halfAt (s .core .half) r) (omega (arith, room-fits r l)) (h .rooms r l)
-
-  pub place-below : length m ≡ memorySize → (k : ℕ) → k < mostListed → halfAt (s .core .half) (roomOfPlace k) ≤ 1024
-  place-below e k l =
-      let top : greatestLength (roomOfPlace k) ≡ 1021 = rw (ne-eqb (roomOfPlace k) 3 (λ q. omega arith)) in
-      omega (arith, top, half-below e (roomOfPlace k) (omega arith))

@@ -56,16 +56,6 @@ module _ (room : ℕ) (g : Given) where
   after-accepted (packet t p) e =
       ap (λ (x : Result). record { state = x .state; counters = x .counters; memory = x .memory }) (call-accepted (packet t p) e)
 
-  -- the room of the lent list has no part in it
-  pub room-any : (other : ℕ) (c : Call (List ℕ)) → callOf room g c .refusal ≡ 0 → callOf other g c .refusal ≡ 0 → callOf room g c ≡ callOf other g c
-  room-any other (clock t) e h =
-      call-accepted (clock t) e
-      ∙ sym (clock-call-accepted (g .state) t (g .memory) other (sym (clock-number (g .state) t (g .memory) other) ∙ h))
-  room-any other (packet t p) e h =
-      call-accepted (packet t p) e
-      ∙ sym (packet-call-accepted (g .state) t p (g .counters) (g .memory) other
-      (sym (packet-number (g .state) t p (g .counters) (g .memory) other) ∙ h))
-
   -- it was given a sound state, and its time is not below the latest
   sound-accepted : (c : Call (List ℕ)) → callOf room g c .refusal ≡ 0 → stateSound (g .state) (g .memory) ≡ true
   sound-accepted (clock t) e = clock-accepted (g .state) t (g .memory) room (sym (clock-number (g .state) t (g .memory) room) ∙ e) .sound

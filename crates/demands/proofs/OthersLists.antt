@@ -1,7 +1,7 @@
 -- Two programme lists that are alike: the same pairs in the same order, and the same gap starts where a PID is among the PIDs `mine`. Assumes
 -- nothing.
 use mathlib.Core.Path.{_≡_, refl, sym, ap, ap₂, _∙_, subst}
-use mathlib.Core.Bool.{Bool, true, false, cond, _&&_, _||_, true≢false}
+use mathlib.Core.Bool.{Bool, true, false, cond, _&&_, _||_, and-false, true≢false}
 use mathlib.Core.List.{List, [], _∷_, map}
 use Prim.Native.Nat.{ℕ, zero, suc, _+_, _≤_}
 use native.Mathlib.Omega.{arith}
@@ -85,10 +85,6 @@ module _ (mine : ℕ → Bool) where
   touched-other n q t other [] = none
   touched-other n q t other (e ∷ es) = next (record { number = refl; pid = refl; since = since }) (touched-other n q t other es)
     where
-      and-false : (a : Bool) → (a && false) ≡ false
-      and-false true = refl
-      and-false false = refl
-
       since : mine (e .pid) ≡ true → touched n q t e .since ≡ e .since
       since h =
           let apart : eqb (e .pid) q ≡ false = ne-eqb (e .pid) q (λ z. true≢false (sym h ∙ ap mine z ∙ other)) in

@@ -1,108 +1,29 @@
 -- A list that is read moves half-built sections with their PIDs: each PID that stays has the same bytes, and no other has any. Assumes nothing.
 use mathlib.Core.Path.{_≡_, refl, sym, ap, ap₂, _∙_, subst}
-use mathlib.Core.Logic.{_≢_}
 use mathlib.Core.Bool.{Bool, true, false, cond, _&&_}
 use mathlib.Core.List.{List, []}
-use Prim.Native.Nat.{ℕ, zero, suc, _+_, _-_, _≤_, _<_}
-use native.Mathlib.Nat.{add-zero}
+use Prim.Native.Nat.{ℕ, _+_, _-_, _≤_, _<_}
 use native.Mathlib.Omega.{arith}
-use lib.ListN.{length, take, drop, length-append, List·getD-append, length-take}
-use lib.Seq.{sets, length-sets, length-take-le, getD-take}
-use borrow.Author.Tests.{lt-ltb, ltb-true, eq-eqb, ne-eqb}
+use lib.ListN.{length, take, drop, List·getD-append, length-take}
+use lib.Seq.{length-take-le, getD-take}
+use borrow.Author.Tests.{lt-ltb, ltb-true, eq-eqb}
 use Rattle.lists.specs.Places.{part}
 use Rattle.lists.proofs.Tests.{Order, below, from, order}
-use Rattle.lists.proofs.Places.{part-length, part-sets}
+use Rattle.lists.proofs.Places.{part-length}
 use Rattle.watches.specs.declared.Entry.{Entry}
 use Rattle.watches.specs.Tables.{fixedTables}
-use Rattle.sections.specs.Rooms.{memorySize, roomCount, noRoom, roomOfPlace, roomBase, greatestLength, halfBuilt}
+use Rattle.sections.specs.Rooms.{roomCount, noRoom, roomOfPlace, roomBase, greatestLength, halfBuilt}
 use Rattle.sections.specs.Section.{stageOf, isMore}
 use Rattle.sections.proofs.Stages.{stage-few, room-fits}
+use Rattle.sections.proofs.Rooms.{place-top}
 use Rattle.programmes.specs.declared.Listed.{Listed}
-use Rattle.programmes.specs.Places.{placeOf, isListed, pidAt, isFirst, halfAt, movedHalf, movedFrom, movedHalves, movedPlace, movedPlaces}
-use Rattle.programmes.proofs.Moves.{halves-at}
+use Rattle.programmes.specs.Places.{placeOf, isListed, pidAt, isFirst, halfAt, movedHalf, movedFrom, movedHalves}
+use Rattle.programmes.proofs.Moves.{halves-at, halves-length}
+use Rattle.programmes.proofs.Moved.{moving, places-length, places-others, places-here}
 use Rattle.calls.specs.Cores.{listed, Held, fixedRoom}
 use Rattle.calls.specs.Steps.{listedBy, listOn}
-use Rattle.demands.proofs.OthersRooms.{room-sets}
 use Rattle.demands.proofs.OthersLists.{Filled, filled-starts}
 use Rattle.demands.proofs.OthersPids.{Shaped, shaped-fits, listed-length, bytesIn, bytesFor, IsFixed, place-pid, room-fixed, Housed, at-table, at-place, nowhere, housed, bytes-nowhere}
-
--- SECTION MEMORY, one place after the other
-place-top : (k : ℕ) → greatestLength (roomOfPlace k) ≡ 1021
-place-top k = rw (ne-eqb (roomOfPlace k) 3 (λ e. omega arith))
-
-module _ (old new : List Entry) (ns m₀ : List ℕ) (small : (k : ℕ) → k < 16 → halfAt ns (roomOfPlace k) ≤ 1024) where
-  abbrev bytesMoved : ℕ → List ℕ
-  bytesMoved k = halfBuilt m₀ (roomOfPlace (placeOf (pidAt new k) old)) (halfAt ns (roomOfPlace k))
-
-  moved-fits : (k : ℕ) → k < 16 → 0 + length (bytesMoved k) ≤ greatestLength (roomOfPlace k) + 3
-  unfolding part
-  moved-fits k h =
-      omega (
-        arith,
-        place-top k,
-        small k h,
-        length-take (halfAt ns (roomOfPlace k)) (drop (roomBase (roomOfPlace (placeOf (pidAt new k) old))) m₀),
-      )
-
-  moved-at-zero : (k : ℕ) (m : List ℕ) → movedPlace old new ns m₀ k m ≡ sets m (roomBase (roomOfPlace k) + 0) (bytesMoved k)
-  moved-at-zero k m = ap (λ i. sets m i (bytesMoved k)) (sym (add-zero (roomBase (roomOfPlace k))))
-
-  place-others : (k : ℕ) (m : List ℕ) (r n : ℕ) → k < 16 → r < roomCount → n ≤ greatestLength r + 3 → roomOfPlace k ≢ r
-      → halfBuilt (movedPlace old new ns m₀ k m) r n ≡ halfBuilt m r n
-  place-others k m r n h hr fits apart =
-      ap (λ z. halfBuilt z r n) (moved-at-zero k m)
-      ∙ room-sets m (roomOfPlace k) r 0 n (bytesMoved k) (omega arith) hr apart (moved-fits k h) fits
-
-  places-length : (k left : ℕ) (m : List ℕ) → length (movedPlaces old new ns m₀ k left m) ≡ length m
-  unfolding movedPlaces
-  places-length k zero m = refl
-  places-length k (suc left) m =
-      places-length (k + 1) left (movedPlace old new ns m₀ k m) ∙ length-sets m (roomBase (roomOfPlace k)) (bytesMoved k)
-
-  places-others : (k left : ℕ) (m : List ℕ) (r n : ℕ) → k + left ≤ 16 → r < roomCount → n ≤ greatestLength r + 3
-      → ((j : ℕ) → k ≤ j → roomOfPlace j ≢ r) → halfBuilt (movedPlaces old new ns m₀ k left m) r n ≡ halfBuilt m r n
-  unfolding movedPlaces
-  places-others k zero m r n h hr fits apart = refl
-  places-others k (suc left) m r n h hr fits apart =
-      places-others (k + 1) left (movedPlace old new ns m₀ k m) r n (omega arith) hr fits (λ j l. apart j (omega arith))
-      ∙ place-others k m r n (omega arith) hr fits (apart k (omega arith))
-
-  module _ (i : ℕ) (source : roomBase (roomOfPlace (placeOf (pidAt new i) old)) + halfAt ns (roomOfPlace i) ≤ length m₀) where
-    abbrev heldIn : List ℕ → List ℕ
-    heldIn m = halfBuilt m (roomOfPlace i) (halfAt ns (roomOfPlace i))
-
-    place-own : (m : List ℕ) → i < 16 → length m ≡ memorySize → heldIn (movedPlace old new ns m₀ i m) ≡ bytesMoved i
-    unfolding part
-    place-own m h size =
-        let whole : length (bytesMoved i) ≡ halfAt ns (roomOfPlace i) = part-length m₀ (roomBase (roomOfPlace (placeOf (pidAt new i) old))) (halfAt ns (roomOfPlace i)) source in
-        let room = room-fits (roomOfPlace i) (omega arith) in
-        let z : 0 + length (bytesMoved i) ≡ halfAt ns (roomOfPlace i) = omega (arith, whole) in
-        ap heldIn (moved-at-zero i m)
-        ∙ ap (part (sets m (roomBase (roomOfPlace i) + 0) (bytesMoved i)) (roomBase (roomOfPlace i))) (sym z)
-        ∙ part-sets m (roomBase (roomOfPlace i)) 0 (bytesMoved i) (omega (arith, moved-fits i h, room, size))
-
-    places-own : (k left : ℕ) (m : List ℕ) → k ≤ i → i < k + left → k + left ≤ 16 → length m ≡ memorySize
-        → heldIn (movedPlaces old new ns m₀ k left m) ≡ bytesMoved i
-    unfolding movedPlaces
-    places-own k zero m l u h size = absurd (omega arith)
-    places-own k (suc left) m l u h size =
-        go (order k i) (λ g. places-own (k + 1) left (movedPlace old new ns m₀ k m) g (omega arith) (omega arith) (length-sets m (roomBase (roomOfPlace k)) (bytesMoved k) ∙ size))
-      where
-        go : Order k i → (k + 1 ≤ i → heldIn (movedPlaces old new ns m₀ (k + 1) left (movedPlace old new ns m₀ k m)) ≡ bytesMoved i)
-            → heldIn (movedPlaces old new ns m₀ (k + 1) left (movedPlace old new ns m₀ k m)) ≡ bytesMoved i
-        go (below b) rest = rest (omega arith)
-        go (from b) rest =
-            let e : k ≡ i = omega arith in
-            places-others (k + 1) left (movedPlace old new ns m₀ k m) (roomOfPlace i) (halfAt ns (roomOfPlace i)) (omega arith) (omega arith)
-            (omega (arith, place-top i, small i (omega arith))) (λ j g y. omega arith)
-            ∙ ap (λ j. heldIn (movedPlace old new ns m₀ j m)) e
-            ∙ place-own m (omega arith) size
-
--- THE HALF-BUILT LENGTHS
-moved-length : (old new : List Entry) (ns : List ℕ) (k left : ℕ) → length (movedFrom old new ns k left) ≡ left
-unfolding movedFrom
-moved-length old new ns k zero = refl
-moved-length old new ns k (suc left) = ap suc (moved-length old new ns (k + 1) left)
 
 module _ (l : Listed) (h : Held) (s : Shaped h) (f : Filled l) where
   abbrev old : List Entry
@@ -153,12 +74,16 @@ module _ (l : Listed) (h : Held) (s : Shaped h) (f : Filled l) where
       go (stays before e) = omega (arith, e, shaped-fits h s (source k) (source-room k before), place-top (placeOf (pidAt new k) old))
       go (empty e) = omega (arith, e)
 
+  moving-most : (k : ℕ) → k < 16 → length (moving old new halves (h .memory) k) ≤ 1024
+  unfolding part
+  moving-most k g = omega (arith, half-most k g, length-take (halfAt halves (roomOfPlace k)) (drop (roomBase (source k)) (h .memory)))
+
   -- THE BYTES of a fixed room, and of a place
   bytes-fixed : (r : ℕ) → r < 5 → bytesIn (listOn l h) r ≡ bytesIn h r
   bytes-fixed r g =
       ap (halfBuilt (listOn l h .memory) r) (half-fixed r g)
-      ∙ places-others old new halves (h .memory) half-most 0 16 (h .memory) r (halfAt (h .core .half) r) (omega arith) (omega arith)
-      (omega (arith, shaped-fits h s r (omega arith))) (λ j z e. omega (arith, e, g))
+      ∙ places-others old new halves (h .memory) moving-most r (halfAt (h .core .half) r) (omega arith) (omega (arith, shaped-fits h s r (omega arith))) 0 16
+      (h .memory) (omega arith) (λ j z e. omega (arith, e, g))
 
   bytes-stay : (k : ℕ) → k < 16 → placeOf (pidAt new k) old < length old → halfAt halves (roomOfPlace k) ≡ halfAt (h .core .half) (source k)
       → bytesIn (listOn l h) (roomOfPlace k) ≡ bytesIn h (source k)
@@ -166,7 +91,8 @@ module _ (l : Listed) (h : Held) (s : Shaped h) (f : Filled l) where
       let room = source-room k before in
       let inside : roomBase (source k) + halfAt halves (roomOfPlace k) ≤ length (h .memory) =
       rw e (omega (arith, shaped-fits h s (source k) room, room-fits (source k) room, s .memory)) in
-      places-own old new halves (h .memory) half-most k inside 0 16 (h .memory) (omega arith) g (omega arith) (s .memory)
+      places-here old new halves (h .memory) moving-most k (part-length (h .memory) (roomBase (source k)) (halfAt halves (roomOfPlace k)) inside) 0 16
+      (h .memory) (s .memory) (omega arith) g (omega arith)
       ∙ ap (halfBuilt (h .memory) (source k)) e
 
   bytes-empty : (k : ℕ) → halfAt halves (roomOfPlace k) ≡ 0 → bytesIn (listOn l h) (roomOfPlace k) ≡ []
@@ -178,14 +104,8 @@ module _ (l : Listed) (h : Held) (s : Shaped h) (f : Filled l) where
       record {
         inSync = s .inSync;
         run = s .run;
-        memory = places-length old new halves (h .memory) half-most 0 16 (h .memory) ∙ s .memory;
-        half =
-            omega (
-              arith,
-              length-append (take 5 (h .core .half)) (movedFrom old new (h .core .half) 0 16),
-              length-take-le 5 (h .core .half) (omega (arith, s .half)),
-              moved-length old new (h .core .half) 0 16,
-            );
+        memory = places-length old new halves (h .memory) 0 16 (h .memory) ∙ s .memory;
+        half = halves-length old new (h .core .half) (s .half);
         since = s .since;
         entries = f .places;
         count = f .count;

@@ -2,17 +2,14 @@
 -- half-built section there build the same. Assumes nothing.
 use mathlib.Core.Path.{_≡_, refl, sym, ap, _∙_, subst}
 use mathlib.Core.Logic.{_≢_}
-use mathlib.Core.Bool.{Bool, true, false, cond, _&&_, _||_, true≢false}
+use mathlib.Core.Bool.{Bool, true, false, cond, _&&_}
 use mathlib.Core.List.{List, [], _∷_, _++_}
-use Prim.Native.Nat.{ℕ, suc, _+_, _-_, _≤_, _<_}
+use Prim.Native.Nat.{ℕ, _+_, _-_, _≤_, _<_}
 use native.Mathlib.Omega.{arith}
-use lib.Dec.{leb, ltb, eqb}
-use lib.ListN.{length, set, take, drop, length-set}
-use lib.Seq.{sets, drop-set-lt, drop-set-add, take-set-le}
-use borrow.Author.Tests.{leb-true, lt-leb}
+use lib.Dec.{ltb, eqb}
+use lib.ListN.{length, take, drop, length-set}
 use Rattle.lists.specs.Places.{part}
-use Rattle.lists.proofs.Tests.{cond-either, Order, below, from, order}
-use Rattle.lists.proofs.Table.{passes, passes-at}
+use Rattle.lists.proofs.Tests.{cond-either}
 use Rattle.lists.proofs.Places.{part-set}
 use Rattle.sections.specs.declared.Stage.{Stage}
 use Rattle.sections.specs.declared.Stage.the-variants.{More, Bad, Whole}
@@ -20,53 +17,7 @@ use Rattle.sections.specs.Rooms.{memorySize, roomCount, roomBase, greatestLengt
 use Rattle.sections.specs.Section.{stageOf, isMore}
 use Rattle.sections.specs.Building.{Mode, going, done, fresh, stopped, badLength, whole, Job, laidByte, afterWhole, ended, settled, inMode, emptied, fedBy, fed, resumed, restarted, anew, pointerOf, pointed, begunJob, built}
 use Rattle.sections.proofs.Stages.{stage-few, room-fits, half-short}
-
--- ROOMS do not overlap
-abbrev roomEnd : ℕ → ℕ
-roomEnd r = roomBase r + greatestLength r + 3
-
-or-second : (a b : Bool) → a ≡ false → (a || b) ≡ true → b ≡ true
-or-second true b e h = absurd (true≢false e)
-or-second false b e h = h
-
-rooms-ordered : (r q : ℕ) → r < q → q < roomCount → roomEnd r ≤ roomBase q
-rooms-ordered r q h g =
-    let all = passes-at (λ q. passes (λ r. leb q r || leb (roomEnd r) (roomBase q)) roomCount) roomCount refl q g in
-    let here = passes-at (λ r. leb q r || leb (roomEnd r) (roomBase q)) roomCount all r (omega arith) in
-    leb-true (roomEnd r) (roomBase q) (or-second (leb q r) (leb (roomEnd r) (roomBase q)) (lt-leb q r h) here)
-
--- WHAT IS LAID before a part or behind it leaves the part
-part-sets-before : (l : List ℕ) (at n i : ℕ) (vs : List ℕ) → i + length vs ≤ at → part (sets l i vs) at n ≡ part l at n
-unfolding part
-part-sets-before l at n i [] h = refl
-part-sets-before l at n i (v ∷ vs) h =
-    part-sets-before (set l i v) at n (suc i) vs (omega arith) ∙ ap (take n) (drop-set-lt at l i v (omega arith))
-
-part-sets-behind : (l : List ℕ) (at n i : ℕ) (vs : List ℕ) → at + n ≤ i → part (sets l i vs) at n ≡ part l at n
-unfolding part
-part-sets-behind l at n i [] h = refl
-part-sets-behind l at n i (v ∷ vs) h =
-    let e : i ≡ at + (i - at) = omega arith in
-    part-sets-behind (set l i v) at n (suc i) vs (omega arith)
-    ∙ ap (λ k. take n (drop at (set l k v))) e
-    ∙ ap (take n) (drop-set-add at l (i - at) v)
-    ∙ take-set-le n (drop at l) (i - at) v (omega arith)
-
--- so what is laid within one room leaves the others
-pub room-sets : (m : List ℕ) (r q i n : ℕ) (vs : List ℕ) → r < roomCount → q < roomCount → r ≢ q → i + length vs ≤ greatestLength r + 3
-    → n ≤ greatestLength q + 3 → halfBuilt (sets m (roomBase r + i) vs) q n ≡ halfBuilt m q n
-room-sets m r q i n vs hr hq apart small fits = go (order r q)
-  where
-    go : Order r q → halfBuilt (sets m (roomBase r + i) vs) q n ≡ halfBuilt m q n
-    go (below l) = part-sets-before m (roomBase q) n (roomBase r + i) vs (omega (arith, rooms-ordered r q l hq))
-    go (from l) =
-        let less : q < r = strict (order q r) in
-        part-sets-behind m (roomBase q) n (roomBase r + i) vs (omega (arith, rooms-ordered q r less hr))
-      where
-        strict : Order q r → q < r
-        strict (below s) = s
-        strict (from s) =
-            let e : r ≡ q = omega arith in absurd (apart e)
+use Rattle.sections.proofs.Rooms.{roomEnd, room-sets}
 
 -- A PAYLOAD IN THE ROOM r
 module _ (r : ℕ) (room : r < roomCount) where

@@ -40,6 +40,3 @@ payload-from p =
 
 pub counter-small : (p : List ℕ) → counterOf p < 16
 counter-small p = omega arith
-
-pub control-small : (p : List ℕ) → controlOf p < 4
-control-small p = omega arith

@@ -2,17 +2,12 @@
 -- consequence of document 01, "Watches and lateness".
 --
 --   Call X            == a clock call at t, or a packet call at t with the packet x
---   InOrder p cs      == the calls' times never fall, from p on
---   step next k c     == the core after a call: a clock call leaves it as it is
---   lateLog           == what the calls hand over, one after the other, of what falls due as time goes on
---   packetLog         == what the packets themselves give
 --   seen              == what one watch sees of a log: each call's time, then the acts of its packet
 --   only f cs         == the log with every packet that fails the test replaced by a clock call at the same time
---   Padded cs ds      == the first log is the second with clock calls put in anywhere
 --   Every P cs        == every packet of the log is as P says
 use mathlib.Core.Bool.{Bool, true, false}
 use mathlib.Core.List.{List, [], _∷_, _++_, map}
-use Prim.Native.Nat.{ℕ, _≤_}
+use Prim.Native.Nat.{ℕ}
 use Rattle.lateness.specs.Gaps.{Act, Seen, tick, act}
 
 pub data Call (X : Type 0) : Type 0 where
@@ -23,24 +18,7 @@ abbrev pub timeOf : {X : Type 0} → Call X → ℕ
 timeOf (clock t) = t
 timeOf (packet t x) = t
 
-abbrev pub InOrder : {X : Type 0} → ℕ → List (Call X) → Type 0
-InOrder p [] = Unit
-InOrder p (c ∷ cs) = (p ≤ timeOf c) × InOrder (timeOf c) cs
-
 module _ {K X : Type 0} (next : K → ℕ → X → K) where
-  abbrev pub step : K → Call X → K
-  step k (clock t) = k
-  step k (packet t x) = next k t x
-
-  abbrev pub lateLog {ℓ} : {E : Type ℓ} → (K → ℕ → ℕ → List E) → ℕ → K → List (Call X) → List E
-  lateLog late p k [] = []
-  lateLog late p k (c ∷ cs) = late k p (timeOf c) ++ lateLog late (timeOf c) (step k c) cs
-
-  abbrev pub packetLog {ℓ} : {E : Type ℓ} → (K → ℕ → X → List E) → K → List (Call X) → List E
-  packetLog gives k [] = []
-  packetLog gives k (clock t ∷ cs) = packetLog gives k cs
-  packetLog gives k (packet t x ∷ cs) = gives k t x ++ packetLog gives (next k t x) cs
-
   abbrev pub seen : (K → ℕ → X → List Act) → K → List (Call X) → List Seen
   seen acts k [] = []
   seen acts k (clock t ∷ cs) = tick t ∷ seen acts k cs
@@ -54,11 +32,6 @@ abbrev pub only : {X : Type 0} → (X → Bool) → List (Call X) → List (Call
 only f [] = []
 only f (clock t ∷ cs) = clock t ∷ only f cs
 only f (packet t x ∷ cs) = orClock (f x) t x ∷ only f cs
-
-pub data Padded (X : Type 0) : List (Call X) → List (Call X) → Type 0 where
-  none : Padded X [] []
-  same : {cs ds : List (Call X)} (c : Call X) → Padded X cs ds → Padded X (c ∷ cs) (c ∷ ds)
-  extra : {cs ds : List (Call X)} (q : ℕ) → Padded X cs ds → Padded X (clock q ∷ cs) ds
 
 abbrev pub Every : {X : Type 0} → (X → Type 0) → List (Call X) → Type 0
 Every P [] = Unit

@@ -1,3 +1,4 @@
 pub mod Searches
 pub mod Reading
 pub mod Moves
+pub mod Moved

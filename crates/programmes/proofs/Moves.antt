@@ -8,7 +8,7 @@ use native.Mathlib.Nat.{add-zero, le-of-suc-le-suc, not-suc-le-zero}
 use native.Mathlib.Numerals.{add-one}
 use native.Mathlib.Omega.{arith}
 use lib.Dec.{ltb, eqb}
-use lib.ListN.{length, getD, set, take, drop-of-length-le}
+use lib.ListN.{length, getD, set, take, drop-of-length-le, length-append}
 use lib.Seq.{sets, set-getD, getD-take, getD-append-add, length-take-le, sets-eq}
 use borrow.Author.Tests.{lt-ltb, le-ltb, eq-eqb, ne-eqb, ltb-true, eqb-true}
 use Rattle.lists.specs.Places.{part}
@@ -69,10 +69,13 @@ module _ (old new : List Entry) (ns : List ℕ) where
       let e : k + 1 + left ≡ k + suc left = omega arith in
       ap (λ z. movedHalf old new ns k ∷ z) (from-suc (k + 1) left ∙ ap (λ i. movedFrom old new ns (k + 1) left ++ (movedHalf old new ns i ∷ [])) e)
 
-  from-length : (k left : ℕ) → length (movedFrom old new ns k left) ≡ left
+  pub from-length : (k left : ℕ) → length (movedFrom old new ns k left) ≡ left
   unfolding movedFrom
   from-length k zero = refl
   from-length k (suc left) = ap suc (from-length (k + 1) left)
+
+  pub halves-length : length ns ≡ 21 → length (movedHalves old new ns) ≡ 21
+  halves-length e = length-append (take 5 ns) (movedFrom old new ns 0 16) ∙ omega (arith, length-take-le 5 ns (omega arith), from-length 0 16)
 
   pub halves-begin : sets ns 5 (movedFrom old new ns 0 0) ≡ ns
   unfolding movedFrom

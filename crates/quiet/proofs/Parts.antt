@@ -52,13 +52,6 @@ none-at [] e r = List·getD-eq-default {A = ℕ} [] 0 {n = r} (omega arith)
 none-at (n ∷ ns) e zero = eqb-true n 0 (and-left (eqb n 0) (noneHalf ns) e)
 none-at (n ∷ ns) e (suc r) = none-at ns (and-right (eqb n 0) (noneHalf ns) e) r
 
--- and dropping one changes nothing
-pub none-dropped : (ns : List ℕ) → noneHalf ns ≡ true → (r : ℕ) → set ns r 0 ≡ ns
-unfolding noneHalf
-none-dropped [] e r = refl
-none-dropped (n ∷ ns) e zero = ap (λ (z : ℕ). z ∷ ns) (sym (eqb-true n 0 (and-left (eqb n 0) (noneHalf ns) e)))
-none-dropped (n ∷ ns) e (suc r) = ap (λ z. n ∷ z) (none-dropped ns (and-right (eqb n 0) (noneHalf ns) e) r)
-
 -- A QUIET ENTRY
 module _ (p t q : ℕ) (x : Entry) (h : entryQuiet p t q x ≡ true) where
   pub entry-sound : SoundEntry x

@@ -1,5 +1,5 @@
 -- A payload built in a sound room leaves it sound, the other rooms as they were, and bytes everywhere. Assumes nothing.
-use mathlib.Core.Path.{_≡_, refl, ap, _∙_}
+use mathlib.Core.Path.{_≡_, refl, sym, ap, _∙_}
 use mathlib.Core.Bool.{Bool, true, false, cond, _&&_}
 use mathlib.Core.List.{List, [], _∷_, _++_}
 use Prim.Native.Nat.{ℕ, suc, _+_, _≤_, _<_}
@@ -13,10 +13,10 @@ use Rattle.sections.specs.Rooms.{memorySize, roomCount, roomBase, greatestLengt
 use Rattle.sections.specs.Section.{stageOf, isMore}
 use Rattle.sections.specs.Building.{Mode, going, done, fresh, stopped, Finished, badLength, whole, Job, laidByte, ended, settled, inMode, emptied, fedBy, fed, resumed, anew, restarted, pointerOf, begunJob, built}
 use Rattle.sections.proofs.Stages.{half-short, room-fits}
+use Rattle.sections.proofs.Rooms.{room-sets}
 use Rattle.sections.proofs.Jobs.{empty-more}
 use Rattle.reached.specs.Reached.{Bytes}
 use Rattle.reached.proofs.Places.{all-set, all-take, all-drop, all-part}
-use Rattle.reached.proofs.Rooms.{rooms-apart, half-set}
 
 -- FINISHED SECTIONS of bytes
 abbrev pub SectionBytes : Finished → Type 0
@@ -52,7 +52,7 @@ module _ (r : ℕ) (m₀ : List ℕ) (room : r < roomCount) where
       let short = half-short (j .memory) (roomBase r) (greatestLength r) (j .half) (omega (arith, room-fits r room, k .size)) (k .more) in
       record {
         size = length-set (j .memory) (roomBase r + j .half) b ∙ k .size;
-        others = λ q n g e l. half-set r q n l (rooms-apart r q room g e) (j .memory) (j .half) b short ∙ k .others q n g e l;
+        others = λ q n g e l. room-sets (j .memory) r q (j .half) n (b ∷ []) room g (λ z. e (sym z)) (omega (arith, short)) l ∙ k .others q n g e l;
         bytes = all-set (λ x. x < 256) (j .memory) (roomBase r + j .half) b h (k .bytes);
         finished = k .finished;
       }

@@ -17,6 +17,7 @@ use Rattle.sections.proofs.Stages.{half-short, room-fits}
 use Rattle.sections.proofs.Jobs.{empty-more}
 use Rattle.programmes.specs.Listing.{mostListed}
 use Rattle.programmes.specs.Places.{halfAt}
+use Rattle.programmes.proofs.Moves.{halves-length}
 use Rattle.calls.specs.declared.Core.{Core}
 use Rattle.calls.specs.Cores.{Held, listed, roomFor, droppedRoom, opened}
 use Rattle.calls.specs.Sync.{withSync, lostNow}
@@ -29,7 +30,7 @@ use Rattle.reached.specs.Reached.{Bytes}
 use Rattle.reached.proofs.Places.{all-set, all-replicate, all-drop}
 use Rattle.reached.proofs.Built.{AllSections, some, Keeps, built-keeps}
 use Rattle.reached.proofs.Listing.{list-sound, front-sound}
-use Rattle.reached.proofs.Moving.{moved-halves, moved-length, moved-bytes, moved-sound}
+use Rattle.reached.proofs.Moving.{moved-length, moved-bytes, moved-sound}
 
 pub record Kept (h : Held) : Type 0 where
   pub size : length (h .memory) ≡ memorySize
@@ -174,7 +175,7 @@ module _ (t : ℕ) (time : t ≤ latestTime) where
       record {
         size = moved-length old new (h .core .half) (h .memory) (k .size) (k .halves) most (k .rooms);
         bytes = moved-bytes old new (h .core .half) (h .memory) (k .size) (k .halves) most (k .rooms) (k .bytes);
-        halves = moved-halves old new (h .core .half) (h .memory) (k .size) (k .halves) most (k .rooms);
+        halves = halves-length old new (h .core .half) (k .halves);
         since = all-set (λ x. x ≤ latestTime) (h .core .since) patRoom t time (k .since);
         count = read .count;
         entries = read .entries;

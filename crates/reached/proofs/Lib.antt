@@ -1,5 +1,4 @@
 pub mod Places
-pub mod Rooms
 pub mod Built
 pub mod Listing
 pub mod Moving

@@ -3,100 +3,42 @@ use mathlib.Core.Path.{_≡_, refl, sym, ap, _∙_}
 use mathlib.Core.Bool.{Bool, true, false, cond, _&&_}
 use mathlib.Core.List.{List}
 use Prim.Native.Nat.{ℕ, zero, suc, _+_, _-_, _≤_, _<_}
-use native.Mathlib.Nat.{add-zero}
 use native.Mathlib.Omega.{arith}
-use lib.ListN.{length, take, length-append, List·getD-append}
-use lib.Seq.{length-sets, length-take-le, getD-take}
+use lib.ListN.{length, take, List·getD-append}
+use lib.Seq.{length-take-le, getD-take}
 use borrow.Author.Tests.{ltb-true}
 use Rattle.lists.specs.Places.{part}
-use Rattle.lists.proofs.Places.{part-length, part-sets}
+use Rattle.lists.proofs.Places.{part-length}
 use Rattle.lists.proofs.Tests.{Order, below, from, order}
 use Rattle.watches.specs.declared.Entry.{Entry}
 use Rattle.sections.specs.Rooms.{memorySize, roomCount, roomOfPlace, roomBase, greatestLength, halfBuilt}
 use Rattle.sections.specs.Section.{stageOf, isMore}
 use Rattle.sections.proofs.Stages.{half-short, room-fits, place-fits}
+use Rattle.sections.proofs.Rooms.{place-top}
 use Rattle.sections.proofs.Jobs.{empty-more}
 use Rattle.programmes.specs.Listing.{mostListed}
 use Rattle.programmes.specs.Places.{placeOf, isListed, pidAt, isFirst, halfAt, movedFrom, movedHalves, movedPlace, movedPlaces, movedBytes}
 use Rattle.programmes.proofs.Moves.{halves-at}
+use Rattle.programmes.proofs.Moved.{fromRoom, moving, places-length, places-others, places-here}
 use Rattle.calls.specs.Sound.{roomSound}
 use Rattle.reached.specs.Reached.{Bytes}
 use Rattle.reached.proofs.Places.{all-sets, all-part}
-use Rattle.reached.proofs.Rooms.{place-top, rooms-apart, half-sets}
 
 -- PLACES MOVED, from the place j on
 module _ (old new : List Entry) (ns m₀ : List ℕ) where
-  abbrev pub fromRoom : ℕ → ℕ
-  fromRoom k = roomOfPlace (placeOf (pidAt new k) old)
-
-  -- the bytes that move to the place k
-  abbrev pub moving : ℕ → List ℕ
-  moving k = halfBuilt m₀ (fromRoom k) (halfAt ns (roomOfPlace k))
-
-  pub places-length : (j left : ℕ) (m : List ℕ) → length (movedPlaces old new ns m₀ j left m) ≡ length m
-  unfolding movedPlaces
-  places-length j zero m = refl
-  places-length j (suc left) m = places-length (j + 1) left (movedPlace old new ns m₀ j m) ∙ length-sets m (roomBase (roomOfPlace j)) (moving j)
-
   pub places-bytes : Bytes m₀ → (j left : ℕ) (m : List ℕ) → Bytes m → Bytes (movedPlaces old new ns m₀ j left m)
   unfolding movedPlaces
   places-bytes b j zero m h = h
   places-bytes b j (suc left) m h =
       places-bytes b (j + 1) left (movedPlace old new ns m₀ j m)
-      (all-sets (λ x. x < 256) m (roomBase (roomOfPlace j)) (moving j)
-      (all-part (λ x. x < 256) m₀ (roomBase (fromRoom j)) (halfAt ns (roomOfPlace j)) (omega arith) b) h)
-
-  module _ (short : (k : ℕ) → k < mostListed → length (moving k) ≤ 1024) where
-    -- a room that none of them is
-    pub places-others : (q n : ℕ) → q < roomCount → n ≤ greatestLength q + 3 → (j left : ℕ) (m : List ℕ) → j + left ≤ mostListed
-        → ((k : ℕ) → j ≤ k → q ≡ roomOfPlace k → ⊥) → halfBuilt (movedPlaces old new ns m₀ j left m) q n ≡ halfBuilt m q n
-    unfolding movedPlaces
-    places-others q n g l j zero m h other = refl
-    places-others q n g l j (suc left) m h other =
-        places-others q n g l (j + 1) left (movedPlace old new ns m₀ j m) (omega arith) (λ k u. other k (omega arith))
-        ∙ half-sets (roomOfPlace j) q n l (rooms-apart (roomOfPlace j) q (omega arith) g (other j (omega arith))) m (moving j)
-        (omega (arith, place-top j, short j (omega arith)))
-
-    -- the room of one of them
-    module _ (k : ℕ) (fits : length (moving k) ≡ halfAt ns (roomOfPlace k)) where
-      place-here : (m : List ℕ) → k < mostListed → length m ≡ memorySize → halfBuilt (movedPlace old new ns m₀ k m) (roomOfPlace k) (halfAt ns (roomOfPlace k)) ≡ moving k
-      unfolding part
-      place-here m h l =
-          let at = roomBase (roomOfPlace k) in
-          let z : at + 0 ≡ at = add-zero at in
-          let q : 0 + length (moving k) ≡ halfAt ns (roomOfPlace k) = omega (arith, fits) in
-          rw (z, q) at (part-sets m at 0 (moving k) (omega (arith, place-fits k h, short k h)))
-
-      pub places-here : (j left : ℕ) (m : List ℕ) → length m ≡ memorySize → j ≤ k → k < j + left → j + left ≤ mostListed
-          → halfBuilt (movedPlaces old new ns m₀ j left m) (roomOfPlace k) (halfAt ns (roomOfPlace k)) ≡ moving k
-      unfolding movedPlaces
-      places-here j zero m l low high h = absurd (omega arith)
-      places-here j (suc left) m l low high h = go (order j k) (places-here (j + 1) left (movedPlace old new ns m₀ j m) (length-sets m (roomBase (roomOfPlace j)) (moving j) ∙ l))
-        where
-          go : Order j k
-              → (j + 1 ≤ k → k < j + 1 + left → j + 1 + left ≤ mostListed → halfBuilt (movedPlaces old new ns m₀ (j + 1) left (movedPlace old new ns m₀ j m)) (roomOfPlace k) (halfAt ns (roomOfPlace k)) ≡ moving k)
-              → halfBuilt (movedPlaces old new ns m₀ (j + 1) left (movedPlace old new ns m₀ j m)) (roomOfPlace k) (halfAt ns (roomOfPlace k)) ≡ moving k
-          go (below b) later = later (omega arith) (omega arith) (omega arith)
-          go (from b) later =
-              let e : j ≡ k = omega arith in
-              places-others (roomOfPlace k) (halfAt ns (roomOfPlace k)) (omega arith) (omega (arith, place-top k, short k (omega arith), fits)) (j + 1) left
-              (movedPlace old new ns m₀ j m) (omega arith) (λ i u v. omega arith)
-              ∙ ap (λ i. halfBuilt (movedPlace old new ns m₀ i m) (roomOfPlace k) (halfAt ns (roomOfPlace k))) e
-              ∙ place-here m (omega arith) l
+      (all-sets (λ x. x < 256) m (roomBase (roomOfPlace j)) (moving old new ns m₀ j)
+      (all-part (λ x. x < 256) m₀ (roomBase (fromRoom old new ns m₀ j)) (halfAt ns (roomOfPlace j)) (omega arith) b) h)
 
 -- ALL ROOMS of a list read
 module _ (old new : List Entry) (ns m : List ℕ) (size : length m ≡ memorySize) (halves : length ns ≡ roomCount) (most : length old ≤ mostListed)
     (rooms : (r : ℕ) → r < roomCount → roomSound ns m r ≡ true) where
   abbrev next : List ℕ
   next = movedHalves old new ns
-
-  from-length : (k left : ℕ) → length (movedFrom old new ns k left) ≡ left
-  unfolding movedFrom
-  from-length k zero = refl
-  from-length k (suc left) = ap suc (from-length (k + 1) left)
-
-  pub moved-halves : length (movedHalves old new ns) ≡ roomCount
-  moved-halves = length-append (take 5 ns) (movedFrom old new ns 0 16) ∙ omega (arith, length-take-le 5 ns (omega arith), from-length 0 16)
 
   pub moved-length : length (movedBytes old new ns m) ≡ memorySize
   moved-length = places-length old new next m 0 16 m ∙ size

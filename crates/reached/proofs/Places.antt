@@ -1,10 +1,8 @@
 -- What holds of every place of a list, as the list is changed. Assumes nothing.
-use mathlib.Core.Path.{_≡_, refl, ap, _∙_}
 use mathlib.Core.List.{List, [], _∷_}
-use Prim.Native.Nat.{ℕ, zero, suc, _+_, _-_, _≤_, _<_}
-use native.Mathlib.Omega.{arith}
-use lib.ListN.{length, getD, set, take, drop, replicate}
-use lib.Seq.{sets, drop-set-lt, drop-set-add, take-set-le, getD-drop}
+use Prim.Native.Nat.{ℕ, zero, suc, _+_}
+use lib.ListN.{getD, set, take, drop, replicate}
+use lib.Seq.{sets, getD-drop}
 use Rattle.lists.specs.Places.{part}
 
 -- A RULE P of the number at each place, and of 0 past the end
@@ -40,23 +38,3 @@ module _ (P : ℕ → Type 0) where
   pub all-part : (l : List ℕ) (at n : ℕ) → P 0 → All l → All (part l at n)
   unfolding part
   all-part l at n z h = all-take n (drop at l) z (all-drop at l h)
-
--- A PART that is written beside
-module _ (l : List ℕ) (at n : ℕ) where
-  pub part-set-before : (i b : ℕ) → i < at → part (set l i b) at n ≡ part l at n
-  unfolding part
-  part-set-before i b h = ap (take n) (drop-set-lt at l i b h)
-
-  pub part-set-behind : (i b : ℕ) → at + n ≤ i → part (set l i b) at n ≡ part l at n
-  unfolding part
-  part-set-behind i b h =
-      let e : i ≡ at + (i - at) = omega arith in
-      ap (λ z. take n (drop at (set l z b))) e ∙ ap (take n) (drop-set-add at l (i - at) b) ∙ take-set-le n (drop at l) (i - at) b (omega arith)
-
-pub part-sets-before : (l : List ℕ) (at n i : ℕ) (vs : List ℕ) → i + length vs ≤ at → part (sets l i vs) at n ≡ part l at n
-part-sets-before l at n i [] h = refl
-part-sets-before l at n i (v ∷ vs) h = part-sets-before (set l i v) at n (suc i) vs (omega arith) ∙ part-set-before l at n i v (omega arith)
-
-pub part-sets-behind : (l : List ℕ) (at n i : ℕ) (vs : List ℕ) → at + n ≤ i → part (sets l i vs) at n ≡ part l at n
-part-sets-behind l at n i [] h = refl
-part-sets-behind l at n i (v ∷ vs) h = part-sets-behind (set l i v) at n (suc i) vs (omega arith) ∙ part-set-behind l at n i v h

@@ -6,7 +6,6 @@ use Prim.Native.Nat.{ℕ, _+_, _-_, _*_, _≤_}
 use native.Mathlib.Omega.{arith}
 use lib.Dec.{ltb, eqb}
 use lib.ListN.{length, take, drop, length-append, length-take, length-drop}
-use borrow.Author.Tests.{ltb-true}
 use Rattle.lists.specs.Places.{part}
 use Rattle.lists.proofs.Tests.{Order, below, from, order}
 use Rattle.sections.specs.declared.Stage.{Stage}
@@ -93,26 +92,6 @@ resumed-most r j s = go (eqb (j .half) 0)
     go false = going-most r (inMode going j) s refl
 
 -- A PAYLOAD
-pub built-most : (r : ℕ) (m : List ℕ) (n : ℕ) (start : Bool) (s : List ℕ) → length s ≤ 184 → length (built r m n start s .finished) ≤ 62
-unfolding built
-built-most r m n false s h = omega (arith, resumed-most r (begunJob m n) s)
-built-most r m n true s h = go (ltb (1 + pointerOf s) (length s)) refl
-  where
-    led : Job
-    led = fed r (resumed (begunJob m n)) (take (pointerOf s) (drop 1 s))
-
-    go : (near : Bool) → ltb (1 + pointerOf s) (length s) ≡ near
-        → length (cond near (fed r (restarted led) (drop (1 + pointerOf s) s)) (emptied stopped (begunJob m n)) .finished) ≤ 62
-    go true e =
-        omega (
-          arith,
-          ltb-true (1 + pointerOf s) (length s) e,
-          fed-weight r (restarted led) (drop (1 + pointerOf s) s),
-          resumed-most r (begunJob m n) (take (pointerOf s) (drop 1 s)),
-          length-drop (1 + pointerOf s) s,
-        )
-    go false e = omega arith
-
 -- 61 of them at most: with a pointer of 0 none goes on, and any other takes a byte of the new ones
 pub built-greatest : (r : ℕ) (m : List ℕ) (n : ℕ) (start : Bool) (s : List ℕ) → length s ≤ 184 → length (built r m n start s .finished) ≤ 61
 unfolding built fed

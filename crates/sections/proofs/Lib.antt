@@ -1,4 +1,5 @@
 pub mod Stages
+pub mod Rooms
 pub mod Cuts
 pub mod Chunks
 pub mod Counts
