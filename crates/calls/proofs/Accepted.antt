@@ -13,10 +13,8 @@ use Rattle.lists.proofs.Tests.{and-left, and-right, and-intro, Order, below, fr
 use Rattle.watches.specs.declared.Entry.{Entry}
 use Rattle.watches.specs.Tables.{noEntry, latestTime}
 use Rattle.header.specs.Header.{packetSize}
-use Rattle.sections.specs.Rooms.{memorySize, roomCount, roomBase, greatestLength}
-use Rattle.sections.proofs.Stages.{half-short, room-fits}
+use Rattle.sections.specs.Rooms.{roomCount}
 use Rattle.programmes.specs.Listing.{mostListed, lowestPid}
-use Rattle.programmes.specs.Places.{halfAt}
 use Rattle.calls.specs.declared.State.{State}
 use Rattle.calls.specs.Cores.{listed}
 use Rattle.calls.specs.Sound.{greatestPid, timeSound, timesSound, numberAmong, entrySound, entriesSound, runSound, roomSound, roomsFrom, roomsSound, stateSound, byteSound}
@@ -318,7 +316,3 @@ module _ (s : State) (m : List ℕ) (h : Sound s m) where
       go (below b) =
           omega (arith, h .entries .each k (omega (arith, length-take (s .core .count) (s .core .entries))) .since, ap (λ e. e .since) same)
       go (from b) = omega (arith, ap (λ e. e .since) (List·getD-eq-default (s .core .entries) noEntry {n = k} b))
-
-  pub half-below : length m ≡ memorySize → (r : ℕ) → r < roomCount → halfAt (s .core .half) r < greatestLength r + 3
-  half-below e r l =
-      half-short m (roomBase r) (greatestLength r) (halfAt (s .core .half) r) (omega (arith, room-fits r l)) (h .rooms r l)

@@ -7,7 +7,6 @@
 --   sectionLength s    == section_length, twelve bits that end with the third byte
 --   extensionOf s      == table_id_extension
 --   currentIn b        == current_next_indicator in the sixth byte is 1
---   currentOf s        == the section's is
 --   badNumbers top id second n == section_length above the greatest, or too short: below 9 where the indicator is 1,
 --                         below 4 for table_id 0x73
 --   lengthBad top s    == the section's is
@@ -37,9 +36,6 @@ extensionOf s = getD s 3 0 * 256 + getD s 4 0
 
 abbrev pub currentIn : ℕ → Bool
 currentIn sixth = eqb (sixth % 2) 1
-
-abbrev pub currentOf : List ℕ → Bool
-currentOf s = currentIn (getD s 5 0)
 
 abbrev pub badNumbers : ℕ → ℕ → ℕ → ℕ → Bool
 badNumbers top id second n = ltb top n || (indicatorIn second && ltb n 9) || (eqb id 0x73 && ltb n 4)
