@@ -22,8 +22,8 @@ bash host/tools.sh
 bash host/library.sh
 note $? "host/library.sh"
 
-host() { # SUBCOMMAND ARGUMENTS: cargo in host/, on one core and without a network
-    (cd host && cargo "$1" --quiet --offline --release -j 1 --target-dir ../target/host "${@:2}")
+host() { # SUBCOMMAND ARGUMENTS: cargo in host/, without a network
+    (cd host && cargo "$1" --quiet --offline --release --target-dir ../target/host "${@:2}")
 }
 
 host test --workspace --lib --bins --tests > "$log" 2>&1

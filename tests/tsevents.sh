@@ -37,7 +37,7 @@ run() { # PROGRAM
 run target/bin/tsevents
 
 bash host/tools.sh cargo rustc
-(cd host && cargo build --quiet --offline --release -j 1 -p songpigeon-reference --target-dir ../target/host)
+(cd host && cargo build --quiet --offline --release -p songpigeon-reference --target-dir ../target/host)
 run target/host/release/tsevents_reference
 
 echo "$passed passed, $failed failed"

@@ -7,7 +7,7 @@ passed=0
 failed=0
 
 bash host/tools.sh cargo rustc
-(cd host && cargo build --quiet --offline --release -j 1 --target-dir ../target/host -p songpigeon-vectors)
+(cd host && cargo build --quiet --offline --release --target-dir ../target/host -p songpigeon-vectors)
 
 for program in refusal_vectors packet_vectors; do
     if target/host/release/songpigeon-vectors "$program" | cmp - "crates/$program/stdout"; then

@@ -13,8 +13,11 @@ use Rattle.lists.proofs.Tests.{and-left, and-right, and-intro, Order, below, fr
 use Rattle.watches.specs.declared.Entry.{Entry}
 use Rattle.watches.specs.Tables.{noEntry, latestTime}
 use Rattle.header.specs.Header.{packetSize}
-use Rattle.sections.specs.Rooms.{roomCount}
+use Rattle.sections.specs.Rooms.{roomCount, greatestLength, halfBuilt}
+use Rattle.sections.specs.Section.{stageOf, isMore}
+use Rattle.sections.proofs.Jobs.{empty-more}
 use Rattle.programmes.specs.Listing.{mostListed, lowestPid}
+use Rattle.programmes.specs.Places.{halfAt}
 use Rattle.calls.specs.declared.State.{State}
 use Rattle.calls.specs.Cores.{listed}
 use Rattle.calls.specs.Sound.{greatestPid, timeSound, timesSound, numberAmong, entrySound, entriesSound, runSound, roomSound, roomsFrom, roomsSound, stateSound, byteSound}
@@ -250,7 +253,10 @@ entries-whole (x ∷ es) h =
     alone : (k : ℕ) → k < length es → getD es k noEntry .number ≡ x .number → ⊥
     alone k l q = h .apart 0 (suc k) (omega arith) (omega arith) (sym q)
 
--- rooms
+-- rooms: one with nothing half-built is to be built on
+pub room-empty : (ns m : List ℕ) (r : ℕ) → halfAt ns r ≡ 0 → roomSound ns m r ≡ true
+room-empty ns m r e = ap (λ (n : ℕ). isMore (stageOf (greatestLength r) (halfBuilt m r n))) e ∙ empty-more m r
+
 pub rooms-at : (ns m : List ℕ) (a left : ℕ) → roomsFrom ns m a left ≡ true → (r : ℕ) → a ≤ r → r < a + left → roomSound ns m r ≡ true
 unfolding roomsFrom
 rooms-at ns m a zero e r h g = absurd (omega arith)

@@ -42,7 +42,6 @@ use Rattle.checks.proofs.rooms_sound.Reads as rooms-sound
 use Rattle.checks.proofs.open_refusal.Reads as open-refusal
 use Rattle.checks.proofs.packet_refusal.Reads as packet-refusal
 use Rattle.checks.proofs.clock_refusal.Reads as clock-refusal
-use Rattle.steps.proofs.fixed_room.Reads as fixed-room
 use Rattle.steps.proofs.judge_packet.Reads as judge-packet
 use Rattle.engine.proofs.open_at.Reads as open-at
 use Rattle.engine.proofs.whole_packet_at.Reads as whole-packet-at
@@ -54,10 +53,6 @@ use Rattle.arrays.proofs.word_count.Reads as word-count
 use Rattle.arrays.proofs.state_in.Reads as state-in
 use Rattle.arrays.proofs.lay_times.Reads as lay-times
 use Rattle.arrays.proofs.lay_words.Reads as lay-words
-use Rattle.quiet.proofs.state_quiet.Reads as state-quiet
-use Rattle.quiet.proofs.sizes_quiet.Reads as sizes-quiet
-use Rattle.quiet.proofs.count_packet.Reads as count-packet
-use Rattle.quiet.proofs.memory_size.Reads as memory-size
 use Rattle.quiet.proofs.quiet_packet.Reads as quiet-packet
 use Rattle.quiet.proofs.quiet_value.Reads as quiet-value
 use Rattle.testdata.proofs.row_of.Reads as row-of
@@ -114,7 +109,6 @@ pub record NoSecondOutcomeInside : Type 0 where
   pub checks-open-refusal : (κs : _) → OneAnswer (open-refusal.Post κs) (λ r. r)
   pub checks-packet-refusal : (κs : _) → OneAnswer (packet-refusal.Post κs) (λ r. r)
   pub checks-clock-refusal : (κs : _) → OneAnswer (clock-refusal.Post κs) (λ r. r)
-  pub steps-fixed-room : (κs : _) → OneAnswer (fixed-room.Post κs) (λ r. r)
   pub steps-judge-packet : (κs : _)
       → OneOutcome (judge-packet.Post κs) (λ r. r) (λ s. now (s .1 .1 .1 .0) ∷ now (s .1 .1 .1 .1 .0) ∷ now (s .1 .1 .1 .1 .1 .0) ∷ [])
   pub engine-open-at : (κs : _) → OneOutcome (open-at.Post κs) (λ r. r) (λ s. now (s .1 .0))
@@ -130,10 +124,6 @@ pub record NoSecondOutcomeInside : Type 0 where
   pub arrays-state-in : (κs : _) → OneAnswer (state-in.Post κs) (λ r. r)
   pub arrays-lay-times : (κs : _) → OneOutcome (lay-times.Post κs) (λ r. r) (λ s. now (s .1 .0))
   pub arrays-lay-words : (κs : _) → OneOutcome (lay-words.Post κs) (λ r. r) (λ s. now (s .1 .0))
-  pub quiet-state-quiet : (κs : _) → OneAnswer (state-quiet.Post κs) (λ r. r)
-  pub quiet-sizes-quiet : (κs : _) → OneAnswer (sizes-quiet.Post κs) (λ r. r)
-  pub quiet-count-packet : (κs : _) → OneOutcome (count-packet.Post κs) (λ r. r) (λ s. now (s .1 .0))
-  pub quiet-memory-size : (κs : _) → OneAnswer (memory-size.Post κs) (λ r. r)
   pub quiet-quiet-packet : (κs : _)
       → OneOutcome (quiet-packet.Post κs) (λ r. r) (λ s. now (s .0) ∷ now (s .1 .0) ∷ now (s .1 .1 .1 .1 .0) ∷ now (s .1 .1 .1 .1 .1 .0) ∷ [])
   pub quiet-quiet-value : (κs : _) → OneOutcome (quiet-value.Post κs) (λ r. r) (λ s. now (s .1 .1 .1 .0))
@@ -196,7 +186,6 @@ no-second-outcome-inside =
       checks-open-refusal = λ κs a r r′ s s′ p q. both p q;
       checks-packet-refusal = λ κs a r r′ s s′ p q. both p q;
       checks-clock-refusal = λ κs a r r′ s s′ p q. both p q;
-      steps-fixed-room = λ κs a r r′ s s′ p q. both p q;
       steps-judge-packet = λ κs a r r′ s s′ p q. (
         stepped-alike r r′ (both (p .core) (q .core)) (both (p .next) (q .next)),
         places-3 (both (p .counters) (q .counters)) (both (p .memory) (q .memory)) (both (p .laid) (q .laid)),
@@ -214,10 +203,6 @@ no-second-outcome-inside =
       arrays-state-in = λ κs a r r′ s s′ p q. both p q;
       arrays-lay-times = λ κs a r r′ s s′ p q. (refl, both p q);
       arrays-lay-words = λ κs a r r′ s s′ p q. (refl, both p q);
-      quiet-state-quiet = λ κs a r r′ s s′ p q. both p q;
-      quiet-sizes-quiet = λ κs a r r′ s s′ p q. both p q;
-      quiet-count-packet = λ κs a r r′ s s′ p q. (refl, both p q);
-      quiet-memory-size = λ κs a r r′ s s′ p q. both (p .0) (q .0);
       quiet-quiet-packet = λ κs a r r′ s s′ p q.
           (both (p .0) (q .0), places-4 (both (p .1) (q .1)) (both (p .2) (q .2)) (both (p .3) (q .3)) (both (p .4) (q .4)));
       quiet-quiet-value = λ κs a r r′ s s′ p q. (

@@ -8,9 +8,11 @@ use lib.ListN.{length, set, take}
 use lib.Seq.{sets, set-comm, take-set-le, take-set-lt, drop-set-lt, length-sets, getD-set-other, set-append-left, length-take-le}
 use borrow.Author.Tests.{lt-ltb}
 use Rattle.lists.specs.Places.{part}
+use Rattle.lists.proofs.Places.{part-sets-before}
 use Rattle.watches.specs.declared.Entry.{Entry}
 use Rattle.sections.specs.Rooms.{patRoom, roomOfPlace, roomBase, halfBuilt}
 use Rattle.sections.proofs.Jobs.{Elsewhere}
+use Rattle.programmes.proofs.Moved.{places-length}
 use Rattle.programmes.specs.Places.{placeOf, isListed, pidAt, isFirst, halfAt, movedFrom, movedHalves, movedPlace, movedPlaces, movedBytes}
 
 -- LAYING BEHIND A PLACE
@@ -22,22 +24,11 @@ take-sets : (n : ℕ) (l : List ℕ) (at : ℕ) (vs : List ℕ) → n ≤ at →
 take-sets n l at [] h = refl
 take-sets n l at (v ∷ vs) h = take-sets n (set l at v) (suc at) vs (omega arith) ∙ take-set-le n l at v h
 
-part-set-before : (l : List ℕ) (i b at n : ℕ) → i < at → part (set l i b) at n ≡ part l at n
-unfolding part
-part-set-before l i b at n h = ap (take n) (drop-set-lt at l i b h)
-
 -- THE PLACES OF THE LIST lie behind the first 1,024 bytes
 place-behind : (k : ℕ) → 1024 ≤ roomBase (roomOfPlace k)
 place-behind k = rw (lt-ltb 3 (5 + k) (omega arith)) (omega arith)
 
 module _ (old new : List Entry) (ns : List ℕ) where
-  places-length : (m₀ : List ℕ) (k left : ℕ) (m : List ℕ) → length (movedPlaces old new ns m₀ k left m) ≡ length m
-  unfolding movedPlaces
-  places-length m₀ k zero m = refl
-  places-length m₀ k (suc left) m =
-      places-length m₀ (k + 1) left (movedPlace old new ns m₀ k m)
-      ∙ length-sets m (roomBase (roomOfPlace k)) (halfBuilt m₀ (roomOfPlace (placeOf (pidAt new k) old)) (halfAt ns (roomOfPlace k)))
-
   places-front : (n : ℕ) → n ≤ 1024 → (m₀ : List ℕ) (k left : ℕ) (m : List ℕ) → take n (movedPlaces old new ns m₀ k left m) ≡ take n m
   unfolding movedPlaces
   places-front n h m₀ k zero m = refl
@@ -49,7 +40,7 @@ module _ (old new : List Entry) (ns : List ℕ) where
   place-set i b h m₀ k m =
       let from = roomOfPlace (placeOf (pidAt new k) old) in
       let n = halfAt ns (roomOfPlace k) in
-      ap (sets (set m i b) (roomBase (roomOfPlace k))) (part-set-before m₀ i b (roomBase from) n (omega (arith, place-behind (placeOf (pidAt new k) old))))
+      ap (sets (set m i b) (roomBase (roomOfPlace k))) (part-sets-before m₀ (roomBase from) n i (b ∷ []) (omega (arith, place-behind (placeOf (pidAt new k) old))))
       ∙ sets-set m i b (roomBase (roomOfPlace k)) (halfBuilt m₀ from n) (omega (arith, place-behind k))
 
   places-set : (i b : ℕ) → i < 1024 → (m₀ : List ℕ) (k left : ℕ) (m : List ℕ)

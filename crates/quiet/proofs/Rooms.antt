@@ -2,27 +2,20 @@
 use mathlib.Core.Path.{_≡_, sym, ap, _∙_}
 use mathlib.Core.Bool.{true}
 use mathlib.Core.List.{List}
-use Prim.Native.Nat.{ℕ, _+_, _-_, _<_}
+use Prim.Native.Nat.{ℕ, _+_, _-_}
 use native.Mathlib.Omega.{arith}
 use lib.ListN.{getD}
 use Rattle.lists.specs.Places.{part}
 use Rattle.lists.proofs.Places.{part-at}
-use Rattle.sections.specs.Rooms.{roomCount, greatestLength, halfBuilt}
-use Rattle.sections.specs.Section.{stageOf, isMore}
-use Rattle.sections.proofs.Jobs.{empty-more}
-use Rattle.programmes.specs.Places.{halfAt}
-use Rattle.calls.specs.Sound.{roomSound, roomsFrom, roomsSound}
-use Rattle.calls.proofs.Accepted.{rooms-whole}
+use Rattle.sections.specs.Rooms.{roomCount}
+use Rattle.calls.specs.Sound.{roomsFrom, roomsSound}
+use Rattle.calls.proofs.Accepted.{room-empty, rooms-whole}
 use Rattle.quiet.specs.Quiet.{noneHalf}
 use Rattle.quiet.proofs.Parts.{none-at}
 
--- a room with nothing half-built is to be built on
-pub empty-room : (ns m : List ℕ) (r : ℕ) → halfAt ns r ≡ 0 → roomSound ns m r ≡ true
-empty-room ns m r e = ap (λ (n : ℕ). isMore (stageOf (greatestLength r) (halfBuilt m r n))) e ∙ empty-more m r
-
--- and so is every one where there is none
+-- every room is to be built on where nothing is half-built
 pub none-rooms : (ns m : List ℕ) → noneHalf ns ≡ true → roomsSound ns m ≡ true
-none-rooms ns m e = rooms-whole ns m 0 roomCount (λ r l g. empty-room ns m r (none-at ns e r))
+none-rooms ns m e = rooms-whole ns m 0 roomCount (λ r l g. room-empty ns m r (none-at ns e r))
 
 -- where none is behind the fixed rooms
 pub listed-rooms : (ns m : List ℕ) → noneHalf (part ns 5 16) ≡ true → roomsFrom ns m 5 16 ≡ true
@@ -31,4 +24,4 @@ listed-rooms ns m e =
     (λ r l g.
     let k : 5 + (r - 5) ≡ r = omega arith in
     let same = ap (λ (i : ℕ). getD ns i 0) (sym k) ∙ sym (part-at ns 5 16 (r - 5) 0 (omega arith)) in
-    empty-room ns m r (same ∙ none-at (part ns 5 16) e (r - 5)))
+    room-empty ns m r (same ∙ none-at (part ns 5 16) e (r - 5)))

@@ -4,17 +4,14 @@ use mathlib.Core.Logic.{_⊎_, inl, inr, ⊎-elim}
 use mathlib.Core.Bool.{Bool, true, false, cond}
 use mathlib.Core.List.{List, [], _∷_}
 use Prim.Native.Nat.{ℕ, zero, suc, _+_}
-use native.Mathlib.Omega.{arith}
 use lib.Dec.{eqb}
-use lib.ListN.{getD, set, drop, replicate, length-take}
-use Rattle.lists.specs.Places.{part}
+use lib.ListN.{getD, set, replicate}
 use Rattle.lists.proofs.Tests.{and-left, and-right, and-intro, cond-either}
-use Rattle.sections.specs.Rooms.{roomCount, roomBase, greatestLength, halfBuilt}
+use Rattle.sections.specs.Rooms.{roomCount, greatestLength, halfBuilt}
 use Rattle.sections.specs.Section.{stageOf, isMore}
-use Rattle.sections.proofs.Stages.{stage-few}
-use Rattle.programmes.specs.Places.{halfAt}
 use Rattle.calls.specs.declared.Core.{Core}
 use Rattle.calls.specs.Cores.{roomFor, withHalf}
+use Rattle.calls.proofs.Accepted.{room-empty}
 use Rattle.calls.specs.Sound.{roomSound, roomsFrom, roomsSound}
 use Rattle.calls.specs.Sync.{Synced, withSync, lostNow, inSync, whileLost, syncedOf}
 
@@ -24,12 +21,6 @@ unfolding roomFor
 room-kept ns c q = refl
 
 -- EMPTY ROOMS are sound
-room-empty : (ns m : List ℕ) (r : ℕ) → halfAt ns r ≡ 0 → roomSound ns m r ≡ true
-unfolding part
-room-empty ns m r e =
-    ap (λ n. isMore (stageOf (greatestLength r) (halfBuilt m r n))) e
-    ∙ ap isMore (stage-few (greatestLength r) (halfBuilt m r 0) (omega (arith, length-take 0 (drop (roomBase r) m))))
-
 rooms-each : (ns os m : List ℕ) → ((r : ℕ) → roomSound ns m r ≡ true → roomSound os m r ≡ true)
     → (a left : ℕ) → roomsFrom ns m a left ≡ true → roomsFrom os m a left ≡ true
 unfolding roomsFrom

@@ -73,7 +73,7 @@ const NO_CAUSE: u8 = 0;
 const SCRAMBLED: u8 = 3;
 
 // The place of a PID in the table of fixed watches, or 5.
-pub fn fixed_room(pid: u16) -> usize
+fn fixed_room(pid: u16) -> usize
     ensures { λ r. ⌜ r ≡ fixedRoom pid fixedTables ⌝ }
 {
     if pid == PAT_PID {

@@ -71,7 +71,20 @@ fn slices_of_every_length_are_answered() {
         let reply = lent::packet(&mut times, &mut words, 5, packet, counters, &mut memory, &mut numbers, events);
         assert_eq!(reply, Reply { refusal, n: 0 });
     }
-    assert_eq!(lent::clock(&mut times, &mut words, 5, &memory, &mut numbers, &mut []), Reply { refusal: 3, n: 0 });
+    // a list that is too short is told before a time above 2^62 and a run that no call leaves
+    for (time, run) in [(5, 0), ((1 << 62) + 1, 2)] {
+        words[54] = run;
+        for room in [0, 95] {
+            let (counters, events) = (&mut counters[..8_192], &mut events[..room]);
+            let reply =
+                lent::packet(&mut times, &mut words, time, &packet, counters, &mut memory, &mut numbers, events);
+            assert_eq!(reply, Reply { refusal: 3, n: 0 });
+            let reply = lent::clock(&mut times, &mut words, time, &memory, &mut numbers, events);
+            assert_eq!(reply, Reply { refusal: 3, n: 0 });
+        }
+        assert_eq!(words[54], run);
+    }
+    words[54] = 0;
     assert_eq!((times, words), (t, w));
     assert!(events.iter().all(|e| e.stamp == 9));
     assert_eq!(numbers, [8; lent::NUMBERS]);
