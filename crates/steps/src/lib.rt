@@ -1,5 +1,7 @@
 // One packet judged: steps 1 to 5 of document 01, "Judging one packet". Events have the call's time as
-// stamp and the packet's 13 PID bits as id.
+// stamp and the packet's 13 PID bits as id. Step 1 is in `sync`.
+mod sync;
+
 use calls::Core;
 use header::Header;
 use watches::Entry;
@@ -16,10 +18,9 @@ ghost use Rattle.sections.specs.Rooms.{roomCount};
 ghost use Rattle.programmes.specs.Listing.{mostListed};
 ghost use Rattle.programmes.specs.Places.{isListed};
 ghost use Rattle.calls.specs.Cores.{fixedRoom, listRoom, roomFor, withHalf};
-ghost use Rattle.calls.specs.Sync.{syncedOf, inSync, whileLost};
 ghost use Rattle.calls.specs.Steps.{scramblingEvents, step1, step2, step4};
 ghost use Rattle.payloads.specs.Taking.{held};
-ghost use Rattle.steps.specs.Judging.{Ready, Judgeable, Done, faultEvents, CaughtAs, resynced, coursed, Leads};
+ghost use Rattle.steps.specs.Judging.{Ready, Judgeable, Done, faultEvents, coursed, Leads};
 
 // The core after a packet, and the next place for an event.
 pub struct Stepped {
@@ -57,10 +58,6 @@ const FIXED_ROOMS: usize = 5;
 const ROOM_COUNT: usize = 21;
 
 const PAT_ERROR: u16 = 0x0009;
-
-const SYNC_LOSS: u16 = 0x000C;
-
-const SYNC_BYTE_ERROR: u16 = 0x000D;
 
 const CONTINUITY_ERROR: u16 = 0x000E;
 
@@ -289,103 +286,6 @@ fn take_course(
     }
 }
 
-// Step 1 in sync.
-fn judge_in_sync(
-    core: Core,
-    right: bool,
-    time: u64,
-    pid: u16,
-    numbers: &mut [u64],
-    n: usize,
-) -> Caught
-    requires { ⌜ (n + 2 ≤ 96) × (384 ≤ length (now numbers)) ⌝ }
-    ensures { λ r. ⌜ CaughtAs (inSync right core) time pid (resynced r core) (r .further) (now (numbers .entry)) n (now (numbers .exit)) (r .n) ⌝ }
-{
-    if right {
-        return Caught {
-            lost: false,
-            run: 0,
-            dropped: false,
-            n: n,
-            further: true,
-        };
-    }
-    let next = events::put(numbers, n, time, SYNC_BYTE_ERROR, NO_CAUSE, pid);
-    if core.run == 1 {
-        return Caught {
-            lost: true,
-            run: 0,
-            dropped: true,
-            n: events::put(numbers, next, time, SYNC_LOSS, NO_CAUSE, pid),
-            further: false,
-        };
-    }
-    Caught {
-        lost: false,
-        run: 1,
-        dropped: false,
-        n: next,
-        further: false,
-    }
-}
-
-// Step 1 while sync is lost: no events.
-fn judge_lost(core: Core, right: bool, n: usize) -> Caught
-    requires { ⌜ core .run ≤ 4 ⌝ }
-    ensures { λ r. ⌜ (resynced r core ≡ whileLost right core .core) × (r .further ≡ whileLost right core .further) × (r .n ≡ n) ⌝ }
-{
-    if !right {
-        return Caught {
-            lost: true,
-            run: 0,
-            dropped: false,
-            n: n,
-            further: false,
-        };
-    }
-    if core.run == 4 {
-        return Caught {
-            lost: false,
-            run: 0,
-            dropped: false,
-            n: n,
-            further: true,
-        };
-    }
-    Caught {
-        lost: true,
-        run: core.run + 1,
-        dropped: false,
-        n: n,
-        further: false,
-    }
-}
-
-// Step 1.
-fn judge_sync(core: Core, right: bool, time: u64, pid: u16, numbers: &mut [u64], n: usize) -> Caught
-    requires { ⌜ (n + 2 ≤ 96) × (384 ≤ length (now numbers)) × (core .run ≤ 4) ⌝ }
-    ensures { λ r. ⌜ CaughtAs (syncedOf right core) time pid (resynced r core) (r .further) (now (numbers .entry)) n (now (numbers .exit)) (r .n) ⌝ }
-{
-    if core.lost {
-        return judge_lost(core, right, n);
-    }
-    judge_in_sync(core, right, time, pid, numbers, n)
-}
-
-// The core with sync as step 1 leaves it.
-fn resync(core: Core, y: Caught) -> Core
-    ensures { λ r. ⌜ r ≡ resynced y core ⌝ }
-{
-    let mut after = core;
-    after.lost = y.lost;
-    after.run = y.run;
-    if y.dropped {
-        after.half = [0; 21];
-        return after;
-    }
-    after
-}
-
 // A packet at a time: steps 1 to 5. Its events are laid from the place n on. Only the payload needs the whole core: what
 // comes before it says in a few words what is left to be done.
 pub fn judge_packet(
@@ -403,8 +303,8 @@ pub fn judge_packet(
 {
     let h = header::read(packet);
     let right = packet[0] == SYNC_BYTE;
-    let y = judge_sync(core, right, time, h.pid, numbers, n);
-    let synced = resync(core, y);
+    let y = sync::judge_sync(core, right, time, h.pid, numbers, n);
+    let synced = sync::resync(core, y);
     if y.further {
         let v = judge_header(synced, time, packet, h, counters, numbers, y.n);
         return take_course(synced, time, packet, h, v, memory, numbers);

@@ -1,9 +1,9 @@
--- `steps::judge_lost` meets its contract. Assumes nothing.
+-- `steps::sync/judge_lost` meets its contract. Assumes nothing.
 use borrow.Author.Needs.{needs}
 use mathlib.Core.Path.{refl}
 use borrow.Author.Tests.{eq-eqb, ne-eqb, not-true, not-false}
-use Rattle.steps.proofs.judge_lost.Statement.{statement}
-use Rattle.steps.proofs.judge_lost.Tie as tie
+use Rattle.steps.proofs.sync.judge_lost.Statement.{statement}
+use Rattle.steps.proofs.sync.judge_lost.Tie as tie
 
 returns : tie.Need-returns
 returns c = rw (not-true (c .before .args .right) (c .if1 .taken)) (refl, refl, refl)

@@ -1,12 +1,12 @@
--- `steps::judge_in_sync` meets its contract. Assumes nothing.
+-- `steps::sync/judge_in_sync` meets its contract. Assumes nothing.
 use borrow.Author.Needs.{needs}
 use mathlib.Core.Path.{refl, sym}
 use native.Mathlib.Omega.{arith}
 use borrow.Author.Tests.{eq-eqb, ne-eqb}
 use Rattle.lists.proofs.Laying.{laid-none, laid-turn}
 use Rattle.events.specs.Events.{numbersOf}
-use Rattle.steps.proofs.judge_in_sync.Statement.{statement}
-use Rattle.steps.proofs.judge_in_sync.Tie as tie
+use Rattle.steps.proofs.sync.judge_in_sync.Statement.{statement}
+use Rattle.steps.proofs.sync.judge_in_sync.Tie as tie
 
 returns : tie.Need-returns
 returns c =

@@ -1,11 +1,11 @@
--- `steps::judge_sync` meets its contract. Assumes nothing.
+-- `steps::sync/judge_sync` meets its contract. Assumes nothing.
 use borrow.Author.Needs.{needs}
 use mathlib.Core.Path.{sym}
 use native.Mathlib.Omega.{arith}
 use Rattle.lists.proofs.Laying.{laid-none}
 use Rattle.steps.proofs.Doing.{lost-is, in-sync-is, caught-as, lost-silent}
-use Rattle.steps.proofs.judge_sync.Statement.{statement}
-use Rattle.steps.proofs.judge_sync.Tie as tie
+use Rattle.steps.proofs.sync.judge_sync.Statement.{statement}
+use Rattle.steps.proofs.sync.judge_sync.Tie as tie
 
 judge-lost-requires : tie.Need-judge-lost-requires
 judge-lost-requires c κs = search needs

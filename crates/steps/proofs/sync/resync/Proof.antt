@@ -1,6 +1,6 @@
--- `steps::resync` meets its contract. Assumes nothing.
-use Rattle.steps.proofs.resync.Statement.{statement}
-use Rattle.steps.proofs.resync.Tie as tie
+-- `steps::sync/resync` meets its contract. Assumes nothing.
+use Rattle.steps.proofs.sync.resync.Statement.{statement}
+use Rattle.steps.proofs.sync.resync.Tie as tie
 
 returns : tie.Need-returns
 returns c = rw (c .before .if1 .taken)
