@@ -85,7 +85,14 @@ fn judge_lost(core: Core, right: bool, n: usize) -> Caught
 }
 
 // Step 1.
-pub fn judge_sync(core: Core, right: bool, time: u64, pid: u16, numbers: &mut [u64], n: usize) -> Caught
+pub(crate) fn judge_sync(
+    core: Core,
+    right: bool,
+    time: u64,
+    pid: u16,
+    numbers: &mut [u64],
+    n: usize,
+) -> Caught
     requires { ⌜ (n + 2 ≤ 96) × (384 ≤ length (now numbers)) × (core .run ≤ 4) ⌝ }
     ensures { λ r. ⌜ CaughtAs (syncedOf right core) time pid (resynced r core) (r .further) (now (numbers .entry)) n (now (numbers .exit)) (r .n) ⌝ }
 {
@@ -96,7 +103,7 @@ pub fn judge_sync(core: Core, right: bool, time: u64, pid: u16, numbers: &mut [u
 }
 
 // The core with sync as step 1 leaves it.
-pub fn resync(core: Core, y: Caught) -> Core
+pub(crate) fn resync(core: Core, y: Caught) -> Core
     ensures { λ r. ⌜ r ≡ resynced y core ⌝ }
 {
     let mut after = core;
