@@ -5,7 +5,7 @@ use mathlib.Core.List.{List, [], _∷_, _++_}
 use Prim.Native.Nat.{ℕ, zero, suc, _+_, _≤_, _<_}
 use native.Mathlib.Omega.{arith}
 use lib.ListN.{length, set, take}
-use lib.Seq.{sets, set-comm, take-set-le, take-set-lt, drop-set-lt, length-sets, getD-set-other, set-append-left, length-take-le}
+use lib.Seq.{sets, set-comm, take-set-le, take-set-lt, getD-set-other, set-append-left, length-take-le}
 use borrow.Author.Tests.{lt-ltb}
 use Rattle.lists.specs.Places.{part}
 use Rattle.lists.proofs.Places.{part-sets-before}

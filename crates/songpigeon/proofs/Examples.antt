@@ -4,7 +4,6 @@ use mathlib.Core.Path.{_≡_, refl}
 use mathlib.Core.List.{List, [], _∷_}
 use Prim.Native.Nat.{ℕ}
 use Rattle.lists.specs.Places.{part}
-use Rattle.testdata.specs.declared.Part.{Part}
 use Rattle.testdata.specs.declared.Head.{Head}
 use Rattle.testdata.specs.declared.Syntax.{Syntax}
 use Rattle.testdata.specs.declared.Fields.the-variants.{Plain, Generic}

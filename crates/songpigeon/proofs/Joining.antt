@@ -2,14 +2,10 @@
 -- Assumes nothing.
 use mathlib.Core.Path.{_≡_, refl, sym, ap}
 use mathlib.Core.Bool.{Bool, true, false, cond}
-use mathlib.Core.List.{List, [], _∷_}
-use Prim.Native.Nat.{ℕ, _-_, _*_}
-use native.Mathlib.Omega.{arith}
+use mathlib.Core.List.{List}
+use Prim.Native.Nat.{ℕ, _-_}
 use lib.Dec.{eqb}
-use lib.ListN.{length, take, drop}
-use borrow.Author.Tests.{eqb-true, eqb-false}
-use Rattle.lists.proofs.Tests.{cond-either}
-use Rattle.header.specs.Header.{packetSize}
+use borrow.Author.Tests.{eqb-false}
 use Rattle.calls.specs.declared.Answer.{Answer}
 use Rattle.calls.specs.declared.State.{State}
 use Rattle.calls.specs.Cores.{openedState}

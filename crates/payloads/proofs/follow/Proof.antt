@@ -1,7 +1,7 @@
 -- `payloads::follow` meets its contract. The invariant: what the payload comes to is what the bytes still to be fed come to from here, behind
 -- the events laid so far; each finished section has taken three bytes or more. Assumes nothing.
 use borrow.Author.Needs.{needs}
-use mathlib.Core.Path.{_≡_, refl, sym, ap, _∙_}
+use mathlib.Core.Path.{_≡_, refl, sym, _∙_}
 use Prim.Native.Nat.{_+_, _-_, _*_, _≤_}
 use native.Mathlib.Omega.{arith}
 use lib.ListN.{length, drop, length-drop}
@@ -9,7 +9,6 @@ use denote.Ref.{now}
 use Rattle.lists.proofs.Turns.{rest-all}
 use Rattle.sections.specs.Building.{fed}
 use Rattle.sections.proofs.Jobs.{empty-more}
-use Rattle.payloads.specs.declared.Taken.{Taken}
 use Rattle.payloads.specs.Taking.{held}
 use Rattle.payloads.specs.Parts.{cameTo, newSections, Fit}
 use Rattle.payloads.proofs.Sections.{NewSection, Reached, reached-begins, stuffing-ends, bytes-end, section-fit, section-inside, section-three, section-leaves, section-waits, section-follows, section-stops}

@@ -1,21 +1,15 @@
 -- `steps::judge_counter` meets its contract. Assumes nothing.
 use borrow.Author.Needs.{needs}
-use mathlib.Core.Path.{_≡_, refl, sym, ap, _∙_}
-use mathlib.Core.Bool.{Bool, true, cond, true≢false}
-use mathlib.Core.List.{List, _++_, append-nil}
-use Prim.Native.Nat.{ℕ}
+use mathlib.Core.Path.{refl, sym, _∙_}
+use mathlib.Core.Bool.{true, true≢false}
 use native.Mathlib.Omega.{arith}
 use borrow.Author.Tests.{ltb-true}
 use denote.Ref.{now}
 use Rattle.lists.proofs.Tests.{and-right}
 use Rattle.lists.proofs.Laying.{laid-turn}
-use Rattle.events.specs.declared.Event.{Event}
 use Rattle.events.specs.Events.{numbersOf}
-use Rattle.header.specs.Header.{headerOf, pidOf}
+use Rattle.header.specs.Header.{headerOf}
 use Rattle.header.proofs.Payload.{counter-small}
-use Rattle.calls.specs.Cores.{Held}
-use Rattle.calls.specs.Steps.{Step, also, step5, scramblingEvents}
-use Rattle.payloads.specs.Taking.{held}
 use Rattle.steps.proofs.Doing.{fields, leads, counter-scrambled, counter-clear}
 use Rattle.steps.proofs.judge_counter.Statement.{statement}
 use Rattle.steps.proofs.judge_counter.Tie as tie
