@@ -2,7 +2,7 @@
 --
 --   Result            == what a call leaves: refusal number (0: accepted), state, counter table, section memory, events
 --   openRefusal, packetRefusal, clockRefusal == the table's refusals, the lowest number where several apply
---   openCall t counters              == opening
+--   openState, openTable             == opening: the state, and the counter table
 --   packetCall s t p counters m room == a packet call, for an event list of `room` records
 --   clockCall s t m room             == a clock call
 --   openAnswer, answerOf             == what is answered by value: refusal number, number of events, state

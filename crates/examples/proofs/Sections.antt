@@ -1,7 +1,7 @@
 -- Worked examples of docs/DECISIONS.md on sections, computed from the definitions. Assumes nothing.
 use mathlib.Core.Path.{_≡_, refl}
 use mathlib.Core.List.{List, [], _∷_, _++_, map}
-use Prim.Native.Nat.{ℕ, _+_}
+use Prim.Native.Nat.{ℕ}
 use lib.ListN.{getD, take, drop, replicate}
 use Rattle.crc.specs.Crc.{crcStep, crcFeed, bits, bitsOf, crcOf}
 use Rattle.lists.specs.Places.{part}

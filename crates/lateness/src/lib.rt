@@ -1,2 +1,2 @@
-// Lateness of a watched table, as definitions and theorems over any limits and any engine: see specs/
-// and proofs/. No functions.
+// Lateness of a watched table, as definitions and theorems over any limits: see specs/ and proofs/. No
+// functions.

@@ -7,7 +7,6 @@ use native.Mathlib.Omega.{arith}
 use lib.Dec.{eqb}
 use lib.ListN.{length, length-append}
 use borrow.Author.Tests.{eqb-true, eqb-false}
-use Rattle.events.specs.Faults as fault
 use Rattle.watches.specs.Tables.{fixedTables}
 use Rattle.watches.specs.Late.{tablesLate, entriesLate}
 use Rattle.watches.proofs.Late.{tables-most, entries-most}

@@ -8,7 +8,7 @@
 --   laidByte r b j == a byte goes to the section in the room r
 --   ended g s j    == after a bad length the rest of the payload is ignored; after a whole section what follows is; the room is empty
 --   settled r j    == what the bytes in the room have come to
---   fedByte r b j  == one byte of the payload: a section does not begin with table_id 0xFF
+--   fedBy r b j    == one byte of the payload: a section does not begin with table_id 0xFF
 --   fed r j s      == some bytes of it
 --   pointerOf s    == with unit start set, the first payload byte is a pointer
 --   pointed r j s  == its bytes go to the half-built section, which is dropped if still unfinished, and new sections follow

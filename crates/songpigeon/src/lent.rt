@@ -1,5 +1,6 @@
-// The calls on a state that is lent as two arrays: unpacked, judged by value, and packed again where the call
-// is accepted. On a refusal nothing that was lent is written, the arrays neither.
+// The calls on a state that is lent as two arrays: a quiet packet call is done in the arrays; any other state
+// is unpacked, judged by value, and packed again where the call is accepted. On a refusal nothing that was lent
+// is written, the arrays neither.
 use arrays::Reply;
 use calls::Answer;
 use events::Event;

@@ -1,6 +1,6 @@
 -- One packet judged, as the code is given it and hands it back: document 01, "Judging one packet".
 --
---   Ready c m p list n most     == what steps 2 to 5 are given: a whole packet and section memory, at most sixteen listed, every room sound, and
+--   Ready c m p list n most     == what a packet's steps are given: a whole packet and section memory, at most sixteen listed, every room sound, and
 --                                  `most` places for events from the place n on
 --   Judgeable c p counters m list n == what a packet is judged in: ready, a whole counter table, and a sync run of at most 4
 --   Done x most c table m before n after r == what the step x does, done: the core, the counter table and section memory that it leaves, and its

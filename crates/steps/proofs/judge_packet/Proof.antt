@@ -6,7 +6,6 @@ use lib.ListN.{length}
 use denote.Ref.{now}
 use Rattle.lists.proofs.Laying.{laid-length}
 use Rattle.header.specs.Header.{rightSync}
-use Rattle.calls.specs.declared.Core.{Core}
 use Rattle.calls.specs.Sync.{syncedOf}
 use Rattle.steps.proofs.Rooms.{synced-count, synced-sound}
 use Rattle.steps.proofs.Doing.{fields, further-done, stopped-done}
