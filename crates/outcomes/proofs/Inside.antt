@@ -35,6 +35,7 @@ use Rattle.sections.proofs.lay.Reads as lay
 use Rattle.sections.proofs.outcome_of.Reads as outcome-of
 use Rattle.programmes.proofs.read_list.Reads as read-list
 use Rattle.programmes.proofs.place_of.Reads as place-of
+use Rattle.programmes.proofs.none_listed.Reads as none-listed
 use Rattle.programmes.proofs.move_sections.Reads as move-sections
 use Rattle.payloads.proofs.take_payload.Reads as take-payload
 use Rattle.checks.proofs.room_sound.Reads as room-sound
@@ -102,6 +103,7 @@ pub record NoSecondOutcomeInside : Type 0 where
   pub sections-outcome-of : (κs : _) → OneAnswer (outcome-of.Post κs) (λ r. r)
   pub programmes-read-list : (κs : _) → OneAnswer (read-list.Post κs) (λ r. r)
   pub programmes-place-of : (κs : _) → OneAnswer (place-of.Post κs) (λ r. r)
+  pub programmes-none-listed : (κs : _) → OneAnswer (none-listed.Post κs) (λ r. r)
   pub programmes-move-sections : (κs : _) → OneOutcome (move-sections.Post κs) (λ r. r) (λ s. now (s .0))
   pub payloads-take-payload : (κs : _) → OneOutcome (take-payload.Post κs) (λ r. r) (λ s. now (s .1 .0) ∷ now (s .1 .1 .1 .1 .1 .1 .1 .0) ∷ [])
   pub checks-room-sound : (κs : _) → OneAnswer (room-sound.Post κs) (λ r. r)
@@ -178,6 +180,7 @@ no-second-outcome-inside =
       sections-outcome-of = λ κs a r r′ s s′ p q. both p q;
       programmes-read-list = λ κs a r r′ s s′ p q. both (p .0) (q .0);
       programmes-place-of = λ κs a r r′ s s′ p q. both p q;
+      programmes-none-listed = λ κs a r r′ s s′ p q. both p q;
       programmes-move-sections = λ κs a r r′ s s′ p q. (both (p .0) (q .0), both (p .1) (q .1));
       payloads-take-payload = λ κs a r r′ s s′ p q.
           (taken-alike r r′ (both (p .0) (q .0)) (both (p .2) (q .2)), places-2 (both (p .1) (q .1)) (both (p .3) (q .3)));

@@ -112,8 +112,16 @@ fn outcome_in(memory: &[u8], room: usize, size: usize, stage: Stage, pid: u16) -
     sections::outcome_of(&memory[base..base + size], stage, room, pid)
 }
 
+// The half-built length of a room.
+fn half_of(halves: [u16; 21], room: usize) -> usize
+    requires { ⌜ room < roomCount ⌝ }
+    ensures { λ r. ⌜ (r ≡ halfAt halves room) × (length halves ≡ roomCount) ⌝ }
+{
+    halves[room] as usize
+}
+
 // A good PAT section of `size` bytes: the list is the one in it, and half-built sections stay with their
-// PIDs.
+// PIDs; mostly there are none.
 fn relist(core: Core, memory: &mut [u8; 24576], size: usize, time: u64) -> Arrival
     requires { ⌜ (length (now memory) ≡ memorySize) × (core .count ≤ 16) × (size ≤ memorySize) ⌝ }
     requires { ⌜ ((k : ℕ) → k < 16 → halfAt (core .half) (roomOfPlace k) ≤ 1024) ⌝ }
@@ -128,6 +136,20 @@ fn relist(core: Core, memory: &mut [u8; 24576], size: usize, time: u64) -> Arriv
     since[PAT_ROOM] = time;
     let l = list_in(memory, size, time, old, old_count);
     let entries = l.entries;
+    half_of(half, PAT_ROOM);
+    if programmes::none_listed(&half) {
+        return Arrival {
+            core: Core {
+                lost: core.lost,
+                run: core.run,
+                since: since,
+                count: l.count,
+                entries: entries,
+                half: half,
+            },
+            bad: l.bad,
+        };
+    }
     let moved = programmes::move_sections(memory, old, old_count, entries, l.count, half);
     Arrival {
         core: Core {
@@ -336,14 +358,6 @@ fn resume(
         half: 0,
         stopped: is_bad(stage),
     }
-}
-
-// The half-built length of a room.
-fn half_of(halves: [u16; 21], room: usize) -> usize
-    requires { ⌜ room < roomCount ⌝ }
-    ensures { λ r. ⌜ (r ≡ halfAt halves room) × (length halves ≡ roomCount) ⌝ }
-{
-    halves[room] as usize
 }
 
 // A payload of a PID is taken into the room of its sections; their events are laid from the place n on.

@@ -19,7 +19,8 @@ use Rattle.watches.specs.declared.Entry.{Entry}
 use Rattle.watches.specs.Tables.{noEntry}
 use Rattle.sections.specs.Rooms.{memorySize, roomOfPlace, roomBase, halfBuilt}
 use Rattle.sections.proofs.Stages.{place-fits}
-use Rattle.programmes.specs.Places.{placeOf, isListed, pidAt, isFirst, halfAt, movedHalf, movedFrom, movedHalves, movedPlace, movedPlaces}
+use Rattle.programmes.proofs.Empty.{none-places}
+use Rattle.programmes.specs.Places.{noneHalf, placeOf, isListed, pidAt, isFirst, halfAt, movedHalf, movedFrom, movedHalves, movedPlace, movedPlaces, movedBytes}
 use Rattle.programmes.specs.Moving.{Placed, Stayed}
 
 -- the PID of a listed place
@@ -126,18 +127,7 @@ module _ (old new : List Entry) (ns : List ℕ) (enough : 5 ≤ length ns) where
         fits = omega (arith, e, s .2, small (placeOf (pidAt new k) old) (omega (arith, before)));
       }
 
--- NOTHING HALF-BUILT in the rooms of the list: one room more of which that is known
-pub none-turn : (ns : List ℕ) (none : Bool) (k : ℕ) → (none ≡ true → (j : ℕ) → roomOfPlace j < k → halfAt ns (roomOfPlace j) ≡ 0)
-    → (none && eqb (halfAt ns k) 0) ≡ true → (j : ℕ) → roomOfPlace j < k + 1 → halfAt ns (roomOfPlace j) ≡ 0
-none-turn ns none k before e j h = go (order (roomOfPlace j) k)
-  where
-    go : Order (roomOfPlace j) k → halfAt ns (roomOfPlace j) ≡ 0
-    go (below b) = before (and-left none (eqb (halfAt ns k) 0) e) j b
-    go (from b) =
-        let here : roomOfPlace j ≡ k = omega arith in
-        ap (halfAt ns) here ∙ eqb-true (halfAt ns k) 0 (and-right none (eqb (halfAt ns k) 0) e)
-
--- and then no length moves
+-- NOTHING HALF-BUILT in the rooms of the list: no length moves
 module _ (old new : List Entry) (ns : List ℕ) (most : length old ≤ 16) (none : (k : ℕ) → k < 16 → halfAt ns (roomOfPlace k) ≡ 0) where
   half-none : (k : ℕ) → movedHalf old new ns k ≡ 0
   half-none k = go (order 0 (movedHalf old new ns k))
@@ -220,3 +210,11 @@ places-stayed old new ns m k (suc left) l h p s =
         let fits = place-fits k (omega arith) in
         ap (λ r. sets m (roomBase (roomOfPlace k)) (halfBuilt m (roomOfPlace r) (halfAt ns (roomOfPlace k)))) e
         ∙ part-back m (roomBase (roomOfPlace k)) (halfAt ns (roomOfPlace k)) (omega (arith, q .fits, fits))
+
+-- WHERE NOTHING IS HALF-BUILT in the rooms of the list, neither lengths nor bytes move
+module _ (old new : List Entry) (ns : List ℕ) (most : length old ≤ 16) (long : length ns ≡ 21) (none : noneHalf (part ns 5 16) ≡ true) where
+  pub halves-same : movedHalves old new ns ≡ ns
+  halves-same = halves-none old new ns most (none-places ns none) long
+
+  pub bytes-same : (m : List ℕ) → movedBytes old new ns m ≡ m
+  bytes-same m = ap (λ (z : List ℕ). movedPlaces old new z m 0 16 m) halves-same ∙ places-none old new ns m 0 16 m (λ j g h. none-places ns none j h)

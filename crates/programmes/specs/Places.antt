@@ -5,11 +5,12 @@
 --   placeOf q es     == the first place with the PID q, or the length of the list where there is none
 --   isFirst k q es   == the place k is the first with its PID q
 --   halfAt ns r      == the half-built length of the room r
+--   noneHalf ns      == of these half-built lengths each is 0
 --   movedHalf old new ns k == the half-built length of the place k of the new list: that of the PID's place in the old one, else 0
 --   movedHalves      == all half-built lengths: those of the fixed rooms as they were, then those of the sixteen places
 --   movedBytes       == section memory, the half-built bytes of each place of the new list taken from where they stood in the old one
 use Prim.Native.Nat.{ℕ, zero, suc, _+_}
-use mathlib.Core.Bool.{Bool, cond, _&&_}
+use mathlib.Core.Bool.{Bool, true, cond, _&&_}
 use mathlib.Core.List.{List, [], _∷_, _++_}
 use lib.Dec.{ltb, eqb}
 use lib.ListN.{length, getD, take}
@@ -33,6 +34,10 @@ isFirst es k = ltb k (length es) && eqb (placeOf (pidAt es k) es) k
 
 abbrev pub halfAt : List ℕ → ℕ → ℕ
 halfAt ns r = getD ns r 0
+
+unfoldable pub noneHalf : List ℕ → Bool
+noneHalf [] = true
+noneHalf (n ∷ ns) = eqb n 0 && noneHalf ns
 
 abbrev pub movedHalf : List Entry → List Entry → List ℕ → ℕ → ℕ
 movedHalf old new ns k =

@@ -9,10 +9,10 @@ ghost use lib.Dec.{leb};
 ghost use lib.ListN.{length, take};
 ghost use lib.Seq.{sets};
 ghost use Rattle.lists.specs.Places.{part};
-ghost use Rattle.sections.specs.Rooms.{memorySize, roomOfPlace, roomBase, halfBuilt};
+ghost use Rattle.sections.specs.Rooms.{memorySize, roomCount, roomOfPlace, roomBase, halfBuilt};
 ghost use Rattle.programmes.specs.Listing.{isPair, sinceOf, isNumber, pidUnusable, mostListed, entered, noneListed, readOn, listOf};
 ghost use Rattle.programmes.specs.Reading.{numberAt, pidIn, seenTo, added};
-ghost use Rattle.programmes.specs.Places.{placeOf, halfAt, movedHalf, movedHalves, movedPlaces, movedBytes};
+ghost use Rattle.programmes.specs.Places.{placeOf, halfAt, noneHalf, movedHalf, movedHalves, movedPlaces, movedBytes};
 ghost use Rattle.programmes.specs.Moving.{Placed, Stayed};
 
 // The list of a good PAT section: how many programmes are listed, whether the list is bad, and sixteen
@@ -240,15 +240,16 @@ fn moved_half(
     half[FIRST_ROOM + place]
 }
 
-// Whether nothing is half-built in the rooms of the list. All lengths are looked at: a loop without a way out is
-// done many at a time.
-fn none_half(half: [u16; 21]) -> bool
-    ensures { λ r. ⌜ (r ≡ true → (k : ℕ) → k < 16 → halfAt half (roomOfPlace k) ≡ 0) ⌝ }
+// Whether nothing is half-built in the rooms of the list, in which sections are mostly of one packet. All lengths are
+// looked at: a loop without a way out is done many at a time.
+pub fn none_listed(half: &[u16]) -> bool
+    requires { ⌜ length (now half) ≡ roomCount ⌝ }
+    ensures { λ r. ⌜ r ≡ noneHalf (part (now (half .entry)) 5 16) ⌝ }
 {
     let mut none = true;
-    let mut k: usize = FIRST_ROOM;
-    while k < 21 {
-        none = none & (half[k] == 0);
+    let mut k: usize = 0;
+    while k < 16 {
+        none = none & (half[FIRST_ROOM + k] == 0);
         k += 1;
     }
     none
@@ -265,9 +266,6 @@ fn moved_halves(
     requires { ⌜ («old_count» ≤ 16) × («new_count» ≤ 16) ⌝ }
     ensures { λ r. ⌜ r ≡ movedHalves (take «old_count» old) (take «new_count» new) half ⌝ }
 {
-    if none_half(half) {
-        return half;
-    }
     let mut out = half;
     let mut k: usize = 0;
     while k < MOST_LISTED {

@@ -17,7 +17,7 @@ use Rattle.programmes.specs.Listing.{lowestPid}
 use Rattle.programmes.specs.Places.{placeOf}
 use Rattle.calls.specs.Sound.{greatestPid, timeSound}
 use Rattle.calls.proofs.Accepted.{SoundEntry, SoundList}
-use Rattle.quiet.specs.Quiet.{gapQuiet, tablesQuiet, entryQuiet, markOf, entriesQuiet, noneHalf}
+use Rattle.quiet.specs.Quiet.{gapQuiet, tablesQuiet, entryQuiet, markOf, entriesQuiet}
 use Rattle.quiet.proofs.Turns.{passed}
 
 -- A QUIET GAP is sound and gives no event
@@ -44,13 +44,6 @@ tables-timely p t (r ∷ rs) [] e = refl
 tables-timely p t (r ∷ rs) (s ∷ ss) e =
     let a = passed (gapQuiet (r .limit) p t s) (tablesQuiet p t rs ss) e in
     rw (gap-timely (r .limit) p t s (a .0)) (tables-timely p t rs ss (a .1))
-
--- HALF-BUILT SECTIONS
-pub none-at : (ns : List ℕ) → noneHalf ns ≡ true → (r : ℕ) → getD ns r 0 ≡ 0
-unfolding noneHalf
-none-at [] e r = List·getD-eq-default {A = ℕ} [] 0 {n = r} (omega arith)
-none-at (n ∷ ns) e zero = eqb-true n 0 (and-left (eqb n 0) (noneHalf ns) e)
-none-at (n ∷ ns) e (suc r) = none-at ns (and-right (eqb n 0) (noneHalf ns) e) r
 
 -- A QUIET ENTRY
 module _ (p t q : ℕ) (x : Entry) (h : entryQuiet p t q x ≡ true) where

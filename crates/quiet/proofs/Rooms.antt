@@ -10,8 +10,8 @@ use Rattle.lists.proofs.Places.{part-at}
 use Rattle.sections.specs.Rooms.{roomCount}
 use Rattle.calls.specs.Sound.{roomsFrom, roomsSound}
 use Rattle.calls.proofs.Accepted.{room-empty, rooms-whole}
-use Rattle.quiet.specs.Quiet.{noneHalf}
-use Rattle.quiet.proofs.Parts.{none-at}
+use Rattle.programmes.specs.Places.{noneHalf}
+use Rattle.programmes.proofs.Empty.{none-at}
 
 -- every room is to be built on where nothing is half-built
 pub none-rooms : (ns m : List ℕ) → noneHalf ns ≡ true → roomsSound ns m ≡ true

@@ -10,8 +10,6 @@ use lib.ListN.{length, getD, set, take, drop}
 use lib.Seq.{set-getD}
 use borrow.Author.Tests.{leb-false, eqb-true, ne-eqb}
 use Rattle.lists.proofs.Tests.{and-left, and-right}
-use Rattle.lists.specs.Places.{part}
-use Rattle.lists.proofs.Places.{part-turn}
 use Rattle.lists.proofs.Turns.{left-turn, left-none}
 use Rattle.watches.specs.declared.Entry.{Entry}
 use Rattle.watches.specs.Tables.{noEntry}
@@ -22,34 +20,11 @@ use Rattle.calls.specs.Calls.{tableSize, leastRoom}
 use Rattle.arrays.specs.Lent.{lostIn, runIn, entryIn, tabled}
 use Rattle.arrays.proofs.Back.{getD-tabled}
 use Rattle.quiet.specs.declared.Glance.{Glance}
-use Rattle.quiet.specs.Quiet.{entryQuiet, markOf, entriesQuiet, noneHalf, sizesQuiet, idlePacket, countQuiet, packetQuiet, Glanced}
+use Rattle.quiet.specs.Quiet.{entryQuiet, markOf, entriesQuiet, sizesQuiet, idlePacket, countQuiet, packetQuiet, Glanced}
 
 pub cond-same : (b : Bool) → b ≡ cond b true false
 cond-same true = refl
 cond-same false = refl
-
--- HALF-BUILT LENGTHS
-and-assoc : (a b c : Bool) → (a && (b && c)) ≡ (a && b && c)
-and-assoc true b c = refl
-and-assoc false b c = refl
-
-pub none-turn : (none : Bool) (l : List ℕ) (at k n : ℕ) → k < n → at + k < length l
-    → (none && noneHalf (part l (at + k) (n - k))) ≡ (none && eqb (getD l (at + k) 0) 0 && noneHalf (part l (at + (k + 1)) (n - (k + 1))))
-unfolding noneHalf
-none-turn none l at k n h g =
-    let left : n - k ≡ suc (n - (k + 1)) = omega arith in
-    let next : at + k + 1 ≡ at + (k + 1) = omega arith in
-    rw (left, part-turn l (at + k) (n - (k + 1)) 0 g, next) (and-assoc none (eqb (getD l (at + k) 0) 0) (noneHalf (part l (at + (k + 1)) (n - (k + 1)))))
-
-pub none-end : (none : Bool) (l : List ℕ) (at k n : ℕ) → n ≤ k → (none && noneHalf (part l (at + k) (n - k))) ≡ none
-unfolding noneHalf part
-none-end none l at k n h =
-    let left : n - k ≡ 0 = omega arith in
-    rw left (and-true none)
-  where
-    and-true : (b : Bool) → (b && true) ≡ b
-    and-true true = refl
-    and-true false = refl
 
 -- ENTRIES
 pub entry-at : (times words : List ℕ) (k : ℕ) → k < 16 → getD (tabled (entryIn times words) 0 16) k noEntry ≡ entryIn times words k

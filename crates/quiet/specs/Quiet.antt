@@ -9,7 +9,6 @@
 --   entryQuiet p t q e    == a listed entry as refusal 5 has it, its gap quiet, on another PID than q
 --   markOf e              == programme numbers are told apart by their remainder of 64: a call is not quiet where two have the same
 --   entriesQuiet p t q marks es == listed entries, none with a remainder that is marked or that of another
---   noneHalf ns           == nothing is half-built
 --   syncQuiet c           == in sync, with no wrong byte before, at most sixteen programmes listed
 --   latestQuiet p t       == the latest time not above 2^62, the call's not below it
 --   stateQuiet s m t q    == the state is quiet for a packet of the PID q; half-built sections are as refusal 5 has them
@@ -73,11 +72,6 @@ entriesQuiet p t q marks (e ∷ es) =
 
 abbrev pub unmarked : List Bool
 unmarked = replicate 64 false
-
--- HALF-BUILT SECTIONS
-unfoldable pub noneHalf : List ℕ → Bool
-noneHalf [] = true
-noneHalf (n ∷ ns) = eqb n 0 && noneHalf ns
 
 -- THE STATE
 abbrev pub syncQuiet : Core → Bool

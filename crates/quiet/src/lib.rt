@@ -12,15 +12,15 @@ ghost use Prim.Native.Nat.{ℕ, _-_, _≤_};
 ghost use mathlib.Core.Bool.{true, false, not, _&&_, _||_};
 ghost use lib.Dec.{eqb, leb};
 ghost use lib.ListN.{length, getD, take};
-ghost use Rattle.lists.specs.Places.{part};
 ghost use Rattle.watches.specs.Tables.{fixedTables, latestTime};
 ghost use Rattle.header.specs.Header.{packetSize};
 ghost use Rattle.sections.specs.Rooms.{memorySize, roomCount};
 ghost use Rattle.programmes.specs.Listing.{lowestPid, nullPid};
+ghost use Rattle.programmes.specs.Places.{noneHalf};
 ghost use Rattle.arrays.specs.Lent.{timeCount, wordCount, entryIn, tabled, stateIn};
 ghost use Rattle.calls.specs.Sound.{roomsFrom, roomsSound};
 ghost use Rattle.calls.specs.Calls.{tableSize};
-ghost use Rattle.quiet.specs.Quiet.{gapQuiet, tablesQuiet, entryQuiet, entriesQuiet, unmarked, noneHalf, latestQuiet, stateQuiet, sizesQuiet, countQuiet, packetQuiet, Glanced, quietIn, quietTimes, quietTable, firstOf};
+ghost use Rattle.quiet.specs.Quiet.{gapQuiet, tablesQuiet, entryQuiet, entriesQuiet, unmarked, latestQuiet, stateQuiet, sizesQuiet, countQuiet, packetQuiet, Glanced, quietIn, quietTimes, quietTable, firstOf};
 
 const LATEST_TIME: u64 = 4_611_686_018_427_387_904;
 
@@ -96,26 +96,12 @@ fn none_half(half: &[u16]) -> bool
     none
 }
 
-// The same of the rooms of the list, in which sections are mostly of one packet.
-fn none_listed(half: &[u16]) -> bool
-    requires { ⌜ length (now half) ≡ roomCount ⌝ }
-    ensures { λ r. ⌜ r ≡ noneHalf (part (now (half .entry)) 5 16) ⌝ }
-{
-    let mut none = true;
-    let mut k: usize = 0;
-    while k < 16 {
-        none = none & (half[5 + k] == 0);
-        k += 1;
-    }
-    none
-}
-
 // A room from which on nothing is half-built.
 fn rooms_used(half: &[u16]) -> usize
     requires { ⌜ length (now half) ≡ roomCount ⌝ }
     ensures { λ r. ⌜ (r ≤ 21) × ((m : List ℕ) → roomsFrom (now (half .entry)) m r (21 - r) ≡ true) ⌝ }
 {
-    if none_listed(half) {
+    if programmes::none_listed(half) {
         return 5;
     }
     21

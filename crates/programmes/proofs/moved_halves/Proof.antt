@@ -4,9 +4,9 @@ use mathlib.Core.Path.{_≡_, sym, _∙_}
 use Prim.Native.Nat.{_-_, _≤_}
 use native.Mathlib.Omega.{arith}
 use lib.ListN.{take}
-use lib.Seq.{sets, length-take-le}
+use lib.Seq.{sets}
 use Rattle.programmes.specs.Places.{movedFrom}
-use Rattle.programmes.proofs.Moves.{halves-begin, halves-turn, halves-end, halves-none}
+use Rattle.programmes.proofs.Moves.{halves-begin, halves-turn, halves-end}
 use Rattle.programmes.proofs.moved_halves.Statement.{statement}
 use Rattle.programmes.proofs.moved_halves.Tie as tie
 
@@ -15,15 +15,6 @@ Inv-loop old old-count new new-count half out₀ k₀ out k = (k ≤ 16) × (out
 
 abbrev μ-loop : tie.MeasureT-loop
 μ-loop old old-count new new-count half out₀ k₀ out k = 16 - k
-
-none-half-requires : tie.Need-none-half-requires Inv-loop μ-loop
-none-half-requires c κs = search needs
-
-returns : tie.Need-returns Inv-loop μ-loop
-returns c =
-    let args = c .before .before .args in
-    let old = length-take-le (args .old-count) (args .old) (omega arith) in
-    sym (halves-none (take (args .old-count) (args .old)) _ (args .half) (omega (arith, old, c .before .before .pre .0)) (c .before .none-half .ensures (c .if1 .taken)) (omega arith))
 
 loop-holds : tie.Need-loop-holds Inv-loop μ-loop
 loop-holds c = (omega arith, sym (halves-begin _ _ _))
@@ -51,8 +42,8 @@ loop-again c =
     let loop = c .before .before .loop in
     (omega arith, rw (loop .inv .1, c .moved-half .ensures) (halves-turn _ _ _ (loop .k)))
 
-returns-2 : tie.Need-returns-2 Inv-loop μ-loop
-returns-2 c =
+returns : tie.Need-returns Inv-loop μ-loop
+returns c =
     let k : c .before .loop .k ≡ 16 = omega arith in
     c .before .loop .inv .1 ∙ rw k (halves-end _ _ _ (omega arith))
 
@@ -62,8 +53,6 @@ moved-halves-spec =
     (tie.spec
     Inv-loop
     μ-loop
-    none-half-requires
-    returns
     loop-holds
     moved-half-requires
     add-out
@@ -72,4 +61,4 @@ moved-halves-spec =
     add-k
     loop-less
     loop-again
-    returns-2)
+    returns)

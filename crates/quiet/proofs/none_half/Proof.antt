@@ -6,8 +6,8 @@ use Prim.Native.Nat.{_+_, _-_, _≤_}
 use native.Mathlib.Nat.{zero-add}
 use native.Mathlib.Omega.{arith}
 use Rattle.lists.specs.Places.{part}
-use Rattle.quiet.specs.Quiet.{noneHalf}
-use Rattle.quiet.proofs.Turns.{none-turn, none-end}
+use Rattle.programmes.specs.Places.{noneHalf}
+use Rattle.programmes.proofs.Empty.{none-turn, none-end}
 use Rattle.quiet.proofs.Values.{part-all}
 use Rattle.quiet.proofs.none_half.Statement.{statement}
 use Rattle.quiet.proofs.none_half.Tie as tie

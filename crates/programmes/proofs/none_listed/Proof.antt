@@ -1,14 +1,14 @@
--- `quiet::none_listed` meets its contract. Assumes nothing.
+-- `programmes::none_listed` meets its contract. Assumes nothing.
 use borrow.Author.Needs.{needs}
 use mathlib.Core.Path.{_≡_, refl, sym, _∙_}
 use mathlib.Core.Bool.{_&&_}
 use Prim.Native.Nat.{_+_, _-_, _≤_}
 use native.Mathlib.Omega.{arith}
 use Rattle.lists.specs.Places.{part}
-use Rattle.quiet.specs.Quiet.{noneHalf}
-use Rattle.quiet.proofs.Turns.{none-turn, none-end}
-use Rattle.quiet.proofs.none_listed.Statement.{statement}
-use Rattle.quiet.proofs.none_listed.Tie as tie
+use Rattle.programmes.specs.Places.{noneHalf}
+use Rattle.programmes.proofs.Empty.{none-turn, none-end}
+use Rattle.programmes.proofs.none_listed.Statement.{statement}
+use Rattle.programmes.proofs.none_listed.Tie as tie
 
 abbrev Inv-loop : tie.InvT-loop
 Inv-loop half none₀ k₀ none k = (k ≤ 16) × ((none && noneHalf (part half (5 + k) (16 - k))) ≡ noneHalf (part half 5 16))
