@@ -10,16 +10,14 @@ use borrow.Author.Tests.{le-leb}
 use Rattle.lists.specs.Places.{part}
 use Rattle.watches.specs.declared.Entry.{Entry}
 use Rattle.watches.specs.Tables.{noEntry}
+use Rattle.calls.specs.declared.Core.{Core}
 use Rattle.calls.specs.declared.State.{State}
-use Rattle.arrays.specs.Lent.{lostWord, countWord, lostIn, runIn, entryIn, tabled, timesOf, wordsOf, stateIn}
+use Rattle.arrays.specs.Lent.{lostWord, countWord, lostIn, runIn, entryIn, tabled, timesOf, wordsOf, stateIn, Typed}
 use Rattle.arrays.proofs.Tabled.{tabled-length, length-map, getD-map}
 
--- what a state has by its types
+-- a state whose arrays hold it: the length of its list is one that a word holds
 pub record Shaped (s : State) : Type 0 where
-  pub gaps : length (s .core .since) ≡ 5
-  pub places : length (s .core .entries) ≡ 16
-  pub rooms : length (s .core .half) ≡ 21
-  pub run : s .core .run ≤ 255
+  pub typed : Typed s
   pub count : s .core .count ≤ 65535
 
 pub getD-tabled : {A : Type 0} (f : ℕ → A) (k n i : ℕ) (d : A) → i < n → getD (tabled f k n) i d ≡ f (k + i)
@@ -32,17 +30,21 @@ getD-tabled f k (suc n) (suc i) d h = getD-tabled f (suc k) n i d (omega arith) 
 getD-behind : (a b : List ℕ) (n i : ℕ) → length a ≡ n → getD (a ++ b) (n + i) 0 ≡ getD b i 0
 getD-behind a b n i e = ap (λ (k : ℕ). getD (a ++ b) (k + i) 0) (sym e) ∙ getD-append-add a b i 0
 
-lost-back : (b : Bool) → lostIn (lostWord b) ≡ b
+pub lost-back : (b : Bool) → lostIn (lostWord b) ≡ b
 lost-back true = refl
 lost-back false = refl
 
-run-back : (n : ℕ) → n ≤ 255 → runIn n ≡ n
+pub run-back : (n : ℕ) → n ≤ 255 → runIn n ≡ n
 run-back n h = simp (le-leb n 255 h)
 
-count-back : (n : ℕ) → n ≤ 65535 → countWord n ≡ n
+pub count-back : (n : ℕ) → n ≤ 65535 → countWord n ≡ n
 count-back n h = simp (le-leb n 65535 h)
 
-module _ (s : State) (z : Shaped s) where
+-- the core with another length of the list
+abbrev pub withCount : ℕ → Core → Core
+withCount n c = record { lost = c .lost; run = c .run; since = c .since; count = n; entries = c .entries; half = c .half }
+
+module _ (s : State) (z : Typed s) where
   field-length : (f : Entry → ℕ) → length (map f (s .core .entries)) ≡ 16
   field-length f = length-map f (s .core .entries) ∙ z .places
 
@@ -116,7 +118,10 @@ module _ (s : State) (z : Shaped s) where
       ∙ getD-behind entryWords (s .core .half ++ marks) 32 (21 + i) entryWords-length
       ∙ getD-behind (s .core .half) marks 21 i (z .rooms)
 
-  pub state-back : stateIn (timesOf s) (wordsOf s) ≡ s
+  -- the state that its arrays hold: as it is, but for a list longer than a word holds
+  pub packed-back : stateIn (timesOf s) (wordsOf s) ≡ record { latest = s .latest; core = withCount (countWord (s .core .count)) (s .core) }
   unfolding stateIn timesOf marks
-  state-back =
-      rw (since-back, entries-back, half-back, mark-back 0, mark-back 1, mark-back 2, lost-back (s .core .lost), run-back (s .core .run) (z .run), count-back (s .core .count) (z .count))
+  packed-back = rw (since-back, entries-back, half-back, mark-back 0, mark-back 1, mark-back 2, lost-back (s .core .lost), run-back (s .core .run) (z .run))
+
+pub state-back : (s : State) → Shaped s → stateIn (timesOf s) (wordsOf s) ≡ s
+state-back s z = packed-back s (z .typed) ∙ ap (λ (n : ℕ). record { latest = s .latest; core = withCount n (s .core) }) (count-back (s .core .count) (z .count))

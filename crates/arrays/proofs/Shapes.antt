@@ -6,9 +6,9 @@ use mathlib.Core.List.{List, [], _∷_}
 use Prim.Native.Nat.{ℕ, zero, _≤_}
 use native.Mathlib.Omega.{arith}
 use lib.Dec.{eqb, leb}
-use lib.ListN.{length, set, length-set, length-replicate}
-use borrow.Author.Tests.{eqb-true, eqb-false, leb-false}
-use Rattle.lists.proofs.Places.{front-length}
+use lib.ListN.{length, getD, set, length-set, length-replicate}
+use borrow.Author.Tests.{eqb-true, eqb-false, leb-true, leb-false}
+use Rattle.lists.proofs.Places.{front-length, part-length}
 use Rattle.lists.proofs.Tests.{or-false-right}
 use Rattle.watches.specs.declared.Entry.{Entry}
 use Rattle.watches.specs.Tables.{noEntry}
@@ -24,8 +24,10 @@ use Rattle.calls.specs.Steps.{touched, newList, listedBy, relisted, bytesOf, st
 use Rattle.calls.specs.Sound.{stateSound}
 use Rattle.calls.specs.Calls.{heldOf, packetRefusal, clockRefusal, packetCall, clockCall}
 use Rattle.calls.proofs.Moves.{Moves, packet-moves, sync-moves}
-use Rattle.calls.proofs.Accepted.{sound-parts, packet-accepted, packet-call-accepted, packet-call-refused, clock-call-accepted, clock-call-refused}
+use Rattle.calls.proofs.Accepted.{sound-parts, packet-accepted, clock-accepted, packet-call-accepted, packet-call-refused, clock-call-accepted, clock-call-refused}
+use Rattle.arrays.specs.Lent.{runIn, stateIn, Sized, Typed}
 use Rattle.arrays.proofs.Back.{Shaped}
+use Rattle.arrays.proofs.Stores.{entries-length}
 
 record Fit (c : Core) : Type 0 where
   gaps : length (c .since) ≡ 5
@@ -38,9 +40,16 @@ run-most : (lost : Bool) (run : ℕ) → run ≤ cond lost 4 1 → run ≤ 255
 run-most true run h = omega arith
 run-most false run h = omega arith
 
+run-few : (lost : Bool) (run : ℕ) → run ≤ cond lost 4 1 → run ≤ 4
+run-few true run h = h
+run-few false run h = omega arith
+
 fit-shaped : (s : State) → Fit (s .core) → Shaped s
 fit-shaped s f =
-    record { gaps = f .gaps; places = f .places; rooms = f .rooms; run = run-most (s .core .lost) (s .core .run) (f .run); count = omega (arith, f .count) }
+    record {
+      typed = record { gaps = f .gaps; places = f .places; rooms = f .rooms; run = run-most (s .core .lost) (s .core .run) (f .run) };
+      count = omega (arith, f .count);
+    }
 
 -- THE LIST in a section
 record ListFit (l : Listed) : Type 0 where
@@ -117,32 +126,69 @@ zero-or k P yes-zero no-zero = go (eqb k 0) refl
     go true e = yes-zero (eqb-true k 0 e)
     go false e = no-zero (eqb-false k 0 e)
 
-module _ (s : State) (z : Shaped s) where
+module _ (s : State) (z : Typed s) where
   sound-fit : (m : List ℕ) (sound : stateSound s m ≡ true) → Fit (s .core)
   sound-fit m sound =
       let q = sound-parts s m sound in
       record { gaps = z .gaps; places = z .places; rooms = z .rooms; run = q .run; count = q .count }
 
+  -- steps 1 to 5 leave a short list and a short run
+  pub packet-small : (t : ℕ) (p counters m : List ℕ) → stateSound s m ≡ true
+      → (step1 t p counters (heldOf s m) .held .core .count ≤ 16) × (step1 t p counters (heldOf s m) .held .core .run ≤ 4)
+  packet-small t p counters m sound =
+      let c = step1 t p counters (heldOf s m) .held .core in
+      let f = packet-fit t p counters (heldOf s m) (sound-fit m sound) in
+      (f .count, run-few (c .lost) (c .run) (f .run))
+
+  pub accepted-shaped : (t : ℕ) (p counters m : List ℕ) (room : ℕ) → packetRefusal s t p counters m room ≡ 0 → Shaped (packetCall s t p counters m room .state)
+  accepted-shaped t p counters m room e =
+      rw (packet-call-accepted s t p counters m room e)
+      (fit-shaped _ (packet-fit t p counters (heldOf s m) (sound-fit m (packet-accepted s t p counters m room e .sound))))
+
+  pub accepted-clock-shaped : (t : ℕ) (m : List ℕ) (room : ℕ) → clockRefusal s t m room ≡ 0 → Shaped (clockCall s t m room .state)
+  accepted-clock-shaped t m room e =
+      rw (clock-call-accepted s t m room e)
+      (record {
+        typed = record { gaps = z .gaps; places = z .places; rooms = z .rooms; run = z .run };
+        count = omega (arith, sound-parts s m (clock-accepted s t m room e .sound) .count);
+      })
+
+module _ (s : State) (z : Shaped s) where
   pub packet-shaped : (t : ℕ) (p counters m : List ℕ) (room : ℕ) → Shaped (packetCall s t p counters m room .state)
   packet-shaped t p counters m room =
-      zero-or (packetRefusal s t p counters m room) _
-      (λ e. rw (packet-call-accepted s t p counters m room e)
-      (fit-shaped _ (packet-fit t p counters (heldOf s m) (sound-fit m (packet-accepted s t p counters m room e .sound)))))
-      (λ e. rw (packet-call-refused s t p counters m room e) z)
+      zero-or (packetRefusal s t p counters m room) _ (accepted-shaped s (z .typed) t p counters m room) (λ e. rw (packet-call-refused s t p counters m room e) z)
 
   pub clock-shaped : (t : ℕ) (m : List ℕ) (room : ℕ) → Shaped (clockCall s t m room .state)
   clock-shaped t m room =
-      zero-or (clockRefusal s t m room) _
-      (λ e. rw (clock-call-accepted s t m room e)
-      (record { gaps = z .gaps; places = z .places; rooms = z .rooms; run = z .run; count = z .count }))
-      (λ e. rw (clock-call-refused s t m room e) z)
+      zero-or (clockRefusal s t m room) _ (accepted-clock-shaped s (z .typed) t m room) (λ e. rw (clock-call-refused s t m room e) z)
 
 pub opened-shaped : (t : ℕ) → Shaped (openedState t)
 opened-shaped t =
     record {
-      gaps = length-replicate {A = ℕ} 5 t;
-      places = length-replicate {A = Entry} 16 noEntry;
-      rooms = length-replicate {A = ℕ} 21 0;
-      run = omega arith;
+      typed =
+          record {
+            gaps = length-replicate {A = ℕ} 5 t;
+            places = length-replicate {A = Entry} 16 noEntry;
+            rooms = length-replicate {A = ℕ} 21 0;
+            run = omega arith;
+          };
       count = omega arith;
     }
+
+-- the state that two arrays hold has its shape by their lengths
+pub held-typed : (times words : List ℕ) → Sized times words → Typed (stateIn times words)
+unfolding stateIn
+held-typed times words sized =
+    record {
+      gaps = part-length times 1 5 (omega (arith, sized .long));
+      places = entries-length times words;
+      rooms = part-length words 32 21 (omega (arith, sized .wide));
+      run = run-held (getD words 54 0);
+    }
+  where
+    run-held : (w : ℕ) → runIn w ≤ 255
+    run-held w = go (leb w 255) refl
+      where
+        go : (b : Bool) → leb w 255 ≡ b → cond b w 255 ≤ 255
+        go true e = leb-true w 255 e
+        go false e = omega arith

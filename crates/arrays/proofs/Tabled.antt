@@ -6,7 +6,7 @@ use native.Mathlib.Nat.{add-zero, zero-add, le-of-suc-le-suc, not-suc-le-zero}
 use native.Mathlib.Numerals.{add-one}
 use native.Mathlib.Omega.{arith}
 use lib.ListN.{length, getD, set, drop}
-use lib.Seq.{sets, sets-eq}
+use lib.Seq.{sets, sets-eq, take-all}
 use Rattle.lists.specs.Places.{part}
 use Rattle.lists.proofs.Places.{part-turn}
 use Rattle.lists.proofs.Turns.{drop-none}
@@ -53,6 +53,11 @@ module _ {A : Type 0} where
 
   pub part-tabled : (l : List A) (d : A) (at n : ℕ) → at + n ≤ length l → part l at n ≡ tabled (λ j. getD l (at + j) d) 0 n
   part-tabled l d at n h = rw (add-zero at) at (part-tabled-from l d at 0 n (omega arith))
+
+  -- the part of an array that is all of it
+  pub part-all : (l : List A) (n : ℕ) → length l ≡ n → part l 0 n ≡ l
+  unfolding part
+  part-all l n h = take-all n l (omega arith)
 
   -- a list laid over all of another
   pub sets-all : (l s : List A) → length s ≡ length l → sets l 0 s ≡ s

@@ -1,7 +1,23 @@
 // The state as a host lends it: two arrays, by the width of their numbers, and the way to and from the
-// state by value.
+// state by value. What a call reads of them and moves in them is in `moves`.
+mod moves;
+
 use calls::Core;
 use calls::State;
+pub use moves::count_in;
+pub use moves::drop_all;
+pub use moves::end_gap;
+pub use moves::end_pair;
+pub use moves::gaps_of;
+pub use moves::half_in;
+pub use moves::halves_of;
+pub use moves::lay_list;
+pub use moves::place_in;
+pub use moves::set_half;
+pub use moves::set_sync;
+pub use moves::settle;
+pub use moves::sync_lost;
+pub use moves::sync_run;
 use watches::Entry;
 ghost use mathlib.Core.Path.{_≡_};
 ghost use Prim.Native.Nat.{_<_, _≤_};
@@ -9,7 +25,7 @@ ghost use mathlib.Core.List.{[], _∷_, map};
 ghost use lib.ListN.{length};
 ghost use lib.Seq.{sets};
 ghost use Rattle.lists.specs.Places.{part};
-ghost use Rattle.arrays.specs.Lent.{timeCount, wordCount, lostWord, countWord, runIn, tabled, entryIn, timesOf, wordsOf, stateIn};
+ghost use Rattle.arrays.specs.Lent.{timeCount, wordCount, lostWord, countWord, runIn, tabled, entryIn, timesOf, wordsOf, stateIn, Typed};
 
 // What a host is told of a call: the refusal number (0: accepted) and the number of events.
 #[repr(C)]
@@ -75,7 +91,7 @@ fn gaps_in(times: &[u64]) -> [u64; 5]
 }
 
 // The half-built lengths.
-fn halves_in(words: &[u16]) -> [u16; 21]
+pub fn halves_in(words: &[u16]) -> [u16; 21]
     requires { ⌜ length (now words) ≡ wordCount ⌝ }
     ensures { λ r. ⌜ r ≡ part (now (words .entry)) 32 21 ⌝ }
 {
@@ -89,7 +105,7 @@ fn halves_in(words: &[u16]) -> [u16; 21]
 }
 
 // The entry at a place.
-fn entry_at(times: &[u64], words: &[u16], k: usize) -> Entry
+pub fn entry_at(times: &[u64], words: &[u16], k: usize) -> Entry
     requires { ⌜ (length (now times) ≡ timeCount) × (length (now words) ≡ wordCount) × (k < 16) ⌝ }
     ensures { λ r. ⌜ r ≡ entryIn (now (times .entry)) (now (words .entry)) k ⌝ }
 {
@@ -113,7 +129,7 @@ fn listed_in(words: &[u16]) -> usize
 
 // The sixteen entries, the listed ones first: a loop whose length the compiler does not know keeps the
 // entries together in memory.
-fn entries_in(times: &[u64], words: &[u16]) -> [Entry; 16]
+pub fn entries_in(times: &[u64], words: &[u16]) -> [Entry; 16]
     requires { ⌜ (length (now times) ≡ timeCount) × (length (now words) ≡ wordCount) ⌝ }
     ensures { λ r. ⌜ r ≡ tabled (entryIn (now (times .entry)) (now (words .entry))) 0 16 ⌝ }
 {
@@ -151,11 +167,35 @@ fn size_of(w: u16) -> usize
     w as usize
 }
 
+// A state by value has by its types how many places its arrays have, and a run that a byte holds: a call of these shows it.
+fn sizes(since: [u64; 5], entries: [Entry; 16], half: [u16; 21]) -> usize
+    ensures { λ r. ⌜ (r ≡ 42) × (length since ≡ 5) × (length entries ≡ 16) × (length half ≡ 21) ⌝ }
+{
+    42
+}
+
+fn in_a_byte(run: u8) -> u8
+    ensures { λ r. ⌜ (r ≡ run) × (run ≤ 255) ⌝ }
+{
+    run
+}
+
+pub fn typed(state: State) -> usize
+    ensures { λ r. ⌜ (r ≡ 42) × Typed state ⌝ }
+{
+    let since = state.core.since;
+    let entries = state.core.entries;
+    let half = state.core.half;
+    in_a_byte(state.core.run);
+    sizes(since, entries, half)
+}
+
 // The state that two arrays hold.
-pub fn state_in(times: &[u64], words: &[u16]) -> State
-    requires { ⌜ (length (now times) ≡ timeCount) × (length (now words) ≡ wordCount) ⌝ }
+pub fn state_in(times: &[u64; 22], words: &[u16; 56]) -> State
     ensures { λ r. ⌜ r ≡ stateIn (now (times .entry)) (now (words .entry)) ⌝ }
 {
+    let t = time_count(times);
+    let w = word_count(words);
     State {
         latest: times[0],
         core: Core {
@@ -221,7 +261,7 @@ fn lay_pids(words: &mut [u16], entries: [Entry; 16])
 }
 
 // The half-built lengths.
-fn lay_halves(words: &mut [u16], half: [u16; 21])
+pub fn lay_halves(words: &mut [u16], half: [u16; 21])
     requires { ⌜ length (now words) ≡ wordCount ⌝ }
     ensures { λ _. ⌜ (now (words .exit) ≡ sets (now (words .entry)) 32 half) × (length half ≡ 21) ⌝ }
 {

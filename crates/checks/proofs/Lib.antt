@@ -1,2 +1,4 @@
 pub mod Marks
 pub mod Turns
+pub mod Rooms
+pub mod Ladders

@@ -68,10 +68,6 @@ module _ (ns m : List ℕ) (r left : ℕ) where
   unfolding roomsFrom
   rooms-turn rest e = rw e
 
-  pub rooms-none : left ≡ 0 → roomsFrom ns m r left ≡ true
-  unfolding roomsFrom
-  rooms-none e = rw e
-
 -- a part that reaches past the end of its list is cut there
 pub part-cut : {A : Type 0} (l : List A) (at n k : ℕ) → k ≤ n → (k < n → k ≡ length l - at) → part l at k ≡ part l at n
 unfolding part

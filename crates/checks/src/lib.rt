@@ -1,16 +1,19 @@
 // The refusals (document 01, "The calls and their numbers"): each call's ladder, the lowest number first, and
-// the check of the state behind number 5.
-use calls::State;
+// the check of the state behind number 5, in the lent arrays.
 use watches::Entry;
 ghost use mathlib.Core.Path.{_≡_};
-ghost use mathlib.Core.Bool.{cond};
-ghost use Prim.Native.Nat.{_<_, _≤_};
+ghost use mathlib.Core.Bool.{true, cond};
+ghost use mathlib.Core.List.{List};
+ghost use Prim.Native.Nat.{ℕ, _-_, _<_, _≤_};
 ghost use lib.Dec.{leb};
 ghost use lib.ListN.{length, take, drop};
 ghost use Rattle.sections.specs.Rooms.{memorySize, roomCount, greatestLength, halfBuilt};
 ghost use Rattle.sections.specs.Section.{stageOf, isMore};
-ghost use Rattle.calls.specs.Sound.{timesSound, numberAmong, entrySound, entriesSound, roomsSound, stateSound, byteSound};
-ghost use Rattle.calls.specs.Calls.{openRefusal, packetRefusal, clockRefusal};
+ghost use Rattle.programmes.specs.Places.{noneHalf};
+ghost use Rattle.calls.specs.Sound.{timesSound, numberAmong, entrySound, entriesSound, roomsFrom, roomsSound, stateSound};
+ghost use Rattle.calls.specs.Calls.{openRefusal, clockRefusal};
+ghost use Rattle.arrays.specs.Lent.{timeCount, wordCount, entriesIn, stateIn};
+ghost use Rattle.checks.specs.Ladders.{sizesRefusal, stateRefusal};
 
 const LATEST_TIME: u64 = 4_611_686_018_427_387_904;
 
@@ -20,8 +23,6 @@ const LOWEST_PID: u16 = 0x0020;
 
 const GREATEST_PID: u16 = 0x1FFE;
 
-const ROOM_COUNT: usize = 21;
-
 const PACKET_SIZE: usize = 188;
 
 const TABLE_SIZE: usize = 8192;
@@ -29,8 +30,9 @@ const TABLE_SIZE: usize = 8192;
 const LEAST_ROOM: usize = 96;
 
 // Whether none of the five gap starts is above 2^62.
-fn times_sound(since: [u64; 5]) -> bool
-    ensures { λ r. ⌜ r ≡ timesSound since ⌝ }
+fn times_sound(since: &[u64]) -> bool
+    requires { ⌜ length (now since) ≡ 5 ⌝ }
+    ensures { λ r. ⌜ r ≡ timesSound (now (since .entry)) ⌝ }
 {
     let mut k: usize = 0;
     while k < 5 {
@@ -50,13 +52,13 @@ fn entry_sound(e: Entry) -> bool
 }
 
 // Whether a number is that of a listed entry from the place `start` on.
-fn number_among(number: u16, entries: [Entry; 16], count: usize, start: usize) -> bool
-    requires { ⌜ (count ≤ 16) × (start ≤ count) ⌝ }
-    ensures { λ r. ⌜ r ≡ numberAmong number (drop start (take count entries)) ⌝ }
+fn number_among(number: u16, times: &[u64], words: &[u16], count: usize, start: usize) -> bool
+    requires { ⌜ (length (now times) ≡ timeCount) × (length (now words) ≡ wordCount) × (count ≤ 16) × (start ≤ count) ⌝ }
+    ensures { λ r. ⌜ r ≡ numberAmong number (drop start (take count (entriesIn (now (times .entry)) (now (words .entry))))) ⌝ }
 {
     let mut i = start;
     while i < count {
-        let e = entries[i];
+        let e = arrays::entry_at(times, words, i);
         if e.number == number {
             return true;
         }
@@ -67,21 +69,21 @@ fn number_among(number: u16, entries: [Entry; 16], count: usize, start: usize) -
 
 // Whether each listed entry is sound and its number not listed again. Numbers are told apart by their remainder
 // of 64: only where two have the same is the list searched.
-fn entries_sound(entries: [Entry; 16], count: usize) -> bool
-    requires { ⌜ count ≤ 16 ⌝ }
-    ensures { λ r. ⌜ r ≡ entriesSound (take count entries) ⌝ }
+fn entries_sound(times: &[u64], words: &[u16], count: usize) -> bool
+    requires { ⌜ (length (now times) ≡ timeCount) × (length (now words) ≡ wordCount) × (count ≤ 16) ⌝ }
+    ensures { λ r. ⌜ r ≡ entriesSound (take count (entriesIn (now (times .entry)) (now (words .entry)))) ⌝ }
 {
     let mut marks = [false; 64];
     let mut i = count;
     while 0 < i {
         i -= 1;
-        let e = entries[i];
+        let e = arrays::entry_at(times, words, i);
         if !entry_sound(e) {
             return false;
         }
         let mark = (e.number % 64) as usize;
         if marks[mark] {
-            if number_among(e.number, entries, count, i + 1) {
+            if number_among(e.number, times, words, count, i + 1) {
                 return false;
             }
         }
@@ -102,7 +104,7 @@ fn run_sound(lost: bool, run: u8) -> bool
 
 // Whether the half-built bytes of a room are still to be built on. A given length may reach past the end
 // of section memory: what is there is judged.
-pub fn room_sound(memory: &[u8], room: usize, half: u16) -> bool
+fn room_sound(memory: &[u8], room: usize, half: u16) -> bool
     requires { ⌜ (length (now memory) ≡ memorySize) × (room < roomCount) ⌝ }
     ensures { λ r. ⌜ r ≡ isMore (stageOf (greatestLength room) (halfBuilt (now (memory .entry)) room half)) ⌝ }
 {
@@ -116,13 +118,42 @@ pub fn room_sound(memory: &[u8], room: usize, half: u16) -> bool
     sections::is_more(stage)
 }
 
-// Whether those of every room are.
-pub fn rooms_sound(half: [u16; 21], memory: &[u8]) -> bool
-    requires { ⌜ length (now memory) ≡ memorySize ⌝ }
-    ensures { λ r. ⌜ r ≡ roomsSound half (now (memory .entry)) ⌝ }
+// Whether nothing is half-built. All lengths are looked at: a loop without a way out is done many at a time.
+pub fn none_half(half: &[u16]) -> bool
+    requires { ⌜ length (now half) ≡ roomCount ⌝ }
+    ensures { λ r. ⌜ r ≡ noneHalf (now (half .entry)) ⌝ }
 {
+    let mut none = true;
+    let mut k: usize = 0;
+    while k < 21 {
+        none = none & (half[k] == 0);
+        k += 1;
+    }
+    none
+}
+
+// A room from which on nothing is half-built.
+fn rooms_used(half: &[u16]) -> usize
+    requires { ⌜ length (now half) ≡ roomCount ⌝ }
+    ensures { λ r. ⌜ (r ≤ 21) × ((m : List ℕ) → roomsFrom (now (half .entry)) m r (21 - r) ≡ true) ⌝ }
+{
+    if programmes::none_listed(half) {
+        return 5;
+    }
+    21
+}
+
+// Whether the half-built bytes of every room are still to be built on: mostly there are none.
+pub fn rooms_sound(half: &[u16], memory: &[u8]) -> bool
+    requires { ⌜ (length (now half) ≡ roomCount) × (length (now memory) ≡ memorySize) ⌝ }
+    ensures { λ r. ⌜ r ≡ roomsSound (now (half .entry)) (now (memory .entry)) ⌝ }
+{
+    if none_half(half) {
+        return true;
+    }
+    let top = rooms_used(half);
     let mut room: usize = 0;
-    while room < ROOM_COUNT {
+    while room < top {
         if !room_sound(memory, room, half[room]) {
             return false;
         }
@@ -132,39 +163,27 @@ pub fn rooms_sound(half: [u16; 21], memory: &[u8]) -> bool
 }
 
 // Whether the state is no ground for refusal 5.
-fn state_sound(state: State, memory: &[u8]) -> bool
-    requires { ⌜ length (now memory) ≡ memorySize ⌝ }
-    ensures { λ r. ⌜ r ≡ stateSound state (now (memory .entry)) ⌝ }
+fn state_sound(times: &[u64], words: &[u16], memory: &[u8]) -> bool
+    requires { ⌜ (length (now times) ≡ timeCount) × (length (now words) ≡ wordCount) × (length (now memory) ≡ memorySize) ⌝ }
+    ensures { λ r. ⌜ r ≡ stateSound (stateIn (now (times .entry)) (now (words .entry))) (now (memory .entry)) ⌝ }
 {
-    if LATEST_TIME < state.latest {
+    if LATEST_TIME < times[0] {
         return false;
     }
-    let since = state.core.since;
-    if !times_sound(since) {
+    if !times_sound(arrays::gaps_of(times)) {
         return false;
     }
-    let count = state.core.count;
+    let count = arrays::count_in(words);
     if MOST_LISTED < count {
         return false;
     }
-    let entries = state.core.entries;
-    if !entries_sound(entries, count) {
+    if !entries_sound(times, words, count) {
         return false;
     }
-    if !run_sound(state.core.lost, state.core.run) {
+    if !run_sound(arrays::sync_lost(words), arrays::sync_run(words)) {
         return false;
     }
-    let half = state.core.half;
-    rooms_sound(half, memory)
-}
-
-// Whether the table byte of the packet's PID is one that these calls leave.
-fn byte_sound(counters: &[u8], packet: &[u8]) -> bool
-    requires { ⌜ (length (now counters) ≡ 8192) × (length (now packet) ≡ 188) ⌝ }
-    ensures { λ r. ⌜ r ≡ byteSound (now (counters .entry)) (now (packet .entry)) ⌝ }
-{
-    let pid = header::read(packet).pid;
-    continuity::known_byte(counters[pid as usize])
+    rooms_sound(arrays::halves_of(words), memory)
 }
 
 // The refusal of an opening; 0 where it is accepted.
@@ -180,20 +199,10 @@ pub fn open_refusal(time: u64, counters: &[u8]) -> u32
     0
 }
 
-// The refusal of a packet call for an event list of `room` records; 0 where it is accepted. The state is
-// judged first, into a bool: the ladder is then cheap to go down.
-pub fn packet_refusal(
-    state: State,
-    time: u64,
-    packet: &[u8],
-    counters: &[u8],
-    memory: &[u8],
-    room: usize,
-) -> u32
-    requires { ⌜ length (now memory) ≡ memorySize ⌝ }
-    ensures { λ r. ⌜ r ≡ packetRefusal state time (now (packet .entry)) (now (counters .entry)) (now (memory .entry)) room ⌝ }
+// Refusals 1 to 4 of a packet call, for an event list of `room` records; 0 where none of them is given.
+pub fn sizes_refusal(time: u64, packet: &[u8], counters: &[u8], room: usize) -> u32
+    ensures { λ r. ⌜ r ≡ sizesRefusal time (now (packet .entry)) (now (counters .entry)) room ⌝ }
 {
-    let sound = state_sound(state, memory);
     if packet.len() != PACKET_SIZE {
         return 1;
     }
@@ -206,34 +215,41 @@ pub fn packet_refusal(
     if LATEST_TIME < time {
         return 4;
     }
-    if !sound {
+    0
+}
+
+// Refusals 5 and 6 of a packet call, whose PID has a table byte; 0 where neither is given.
+pub fn state_refusal(times: &[u64], words: &[u16], time: u64, memory: &[u8], byte: u8) -> u32
+    requires { ⌜ (length (now times) ≡ timeCount) × (length (now words) ≡ wordCount) × (length (now memory) ≡ memorySize) ⌝ }
+    ensures { λ r. ⌜ r ≡ stateRefusal (stateIn (now (times .entry)) (now (words .entry))) time (now (memory .entry)) byte ⌝ }
+{
+    if !state_sound(times, words, memory) {
         return 5;
     }
-    if !byte_sound(counters, packet) {
+    if !continuity::known_byte(byte) {
         return 5;
     }
-    if time < state.latest {
+    if time < times[0] {
         return 6;
     }
     0
 }
 
 // The refusal of a clock call; 0 where it is accepted.
-pub fn clock_refusal(state: State, time: u64, memory: &[u8], room: usize) -> u32
-    requires { ⌜ length (now memory) ≡ memorySize ⌝ }
-    ensures { λ r. ⌜ r ≡ clockRefusal state time (now (memory .entry)) room ⌝ }
+pub fn clock_refusal(times: &[u64], words: &[u16], time: u64, memory: &[u8], room: usize) -> u32
+    requires { ⌜ (length (now times) ≡ timeCount) × (length (now words) ≡ wordCount) × (length (now memory) ≡ memorySize) ⌝ }
+    ensures { λ r. ⌜ r ≡ clockRefusal (stateIn (now (times .entry)) (now (words .entry))) time (now (memory .entry)) room ⌝ }
 {
-    let sound = state_sound(state, memory);
     if room < LEAST_ROOM {
         return 3;
     }
     if LATEST_TIME < time {
         return 4;
     }
-    if !sound {
+    if !state_sound(times, words, memory) {
         return 5;
     }
-    if time < state.latest {
+    if time < times[0] {
         return 6;
     }
     0

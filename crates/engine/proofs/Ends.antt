@@ -5,7 +5,7 @@ use mathlib.Core.List.{List, [], _∷_, _++_}
 use Prim.Native.Nat.{ℕ, _+_, _≤_, _<_}
 use native.Mathlib.Omega.{arith}
 use lib.Dec.{leb}
-use lib.ListN.{length, replicate}
+use lib.ListN.{length, getD, set, replicate}
 use borrow.Author.Tests.{eq-eqb, ne-eqb}
 use Rattle.lists.specs.Places.{front}
 use Rattle.lists.proofs.Tests.{and-right, cond-either}
@@ -14,7 +14,6 @@ use Rattle.events.specs.declared.Event.{Event}
 use Rattle.events.specs.Events.{numbersOf, eventsLaid}
 use Rattle.watches.specs.Tables.{latestTime}
 use Rattle.header.specs.Header.{pidOf}
-use Rattle.sections.specs.Rooms.{roomCount}
 use Rattle.programmes.specs.Listing.{mostListed}
 use Rattle.calls.specs.declared.Core.{Core}
 use Rattle.calls.specs.declared.State.{State}
@@ -22,12 +21,19 @@ use Rattle.calls.specs.declared.Answer.{Answer}
 use Rattle.calls.specs.Cores.{listed, lateOf, openedState}
 use Rattle.calls.specs.Sound.{timeSound, timesSound, entriesSound, runSound, roomsSound, stateSound}
 use Rattle.calls.specs.Steps.{step1}
-use Rattle.calls.specs.Calls.{openRefusal, packetRefusal, clockRefusal, openAnswer, openTable, packetCall, clockCall, answerOf, heldOf}
+use Rattle.calls.specs.Calls.{Result, openRefusal, packetRefusal, clockRefusal, openAnswer, openTable, packetCall, clockCall}
 use Rattle.calls.proofs.Accepted.{Sound, open-accepted, packet-call-accepted, packet-call-refused, clock-call-accepted, clock-call-refused}
+use Rattle.arrays.specs.declared.Reply.{Reply}
+use Rattle.arrays.specs.Lent.{coreIn, stateIn, timesOf, wordsOf, Sized}
+use Rattle.arrays.specs.Replies.{timesAfter, wordsAfter}
+use Rattle.payloads.specs.Taking.{held}
+use Rattle.checks.specs.Ladders.{Right}
 use Rattle.steps.specs.Judging.{Done}
-use Rattle.quiet.specs.Quiet.{quietCall, countedTable}
-use Rattle.quiet.proofs.Calls.{quiet-call}
+use Rattle.quiet.specs.Quiet.{quietCall}
+use Rattle.quiet.proofs.Calls.{countedTable}
+use Rattle.quiet.proofs.Lents.{quiet-done}
 use Rattle.engine.specs.Numbers.{AllFit, Numbered}
+use Rattle.engine.specs.Lent.{PacketLaid, ClockLaid}
 use Rattle.engine.proofs.Fits.{all-fit-append, step1-fits}
 
 -- A SOUND STATE, in the forms that judging a packet asks
@@ -49,9 +55,6 @@ numbered-none list = record { laid = sym (laid-none numbersOf 4 list 0); fits = 
 abbrev refused : ℕ → State → Answer
 refused number s = record { refusal = number; n = 0; state = s }
 
-abbrev accepted : ℕ → ℕ → Core → Answer
-accepted t n c = record { refusal = 0; n = n; state = record { latest = t; core = c } }
-
 -- OPENING: a table of which every byte is set to 0
 pub front-zeros : (l : List ℕ) → front (λ x. 0) (length l) l ≡ replicate (length l) 0
 front-zeros [] = refl
@@ -72,62 +75,76 @@ module _ (t : ℕ) (counters : List ℕ) where
       rw (eq-eqb (openRefusal t counters) 0 e)
       (ap₂ refused (sym e) es, cleared ∙ ap (λ (n : ℕ). replicate n 0) (open-accepted t counters e .table))
 
--- A PACKET CALL: its answer, the counter table, section memory and the numbers
-abbrev pub PacketEnd : State → ℕ → List ℕ → List ℕ → List ℕ → ℕ → Answer → List ℕ → List ℕ → List ℕ → List ℕ → Type 0
-PacketEnd s t p counters m room a table left before after =
-    (a ≡ answerOf (packetCall s t p counters m room))
-    × (table ≡ packetCall s t p counters m room .counters)
-    × (left ≡ packetCall s t p counters m room .memory)
-    × Numbered before after (packetCall s t p counters m room .events)
+-- A PACKET CALL on two arrays
+module _ (times words : List ℕ) (t : ℕ) (p counters m : List ℕ) (room : ℕ) (before : List ℕ) where
+  abbrev called : Result
+  called = packetCall (stateIn times words) t p counters m room
 
-module _ (s : State) (t : ℕ) (p counters m : List ℕ) (room : ℕ) (before : List ℕ) where
-  pub packet-refused : (number : ℕ) → number ≡ packetRefusal s t p counters m room → (number ≡ 0 → ⊥)
-      → PacketEnd s t p counters m room (refused number s) counters m before before
+  abbrev told : ℕ → ℕ → Reply
+  told number n = record { refusal = number; n = n }
+
+  pub packet-refused : (number : ℕ) → number ≡ packetRefusal (stateIn times words) t p counters m room → (number ≡ 0 → ⊥)
+      → PacketLaid called (told number 0) times times words words counters m before before
+  unfolding timesAfter wordsAfter
   packet-refused number e wrong =
-      rw (packet-call-refused s t p counters m room (λ z. wrong (e ∙ z))) (ap (λ n. refused n s) e, refl, refl, numbered-none before)
+      let refused : packetRefusal (stateIn times words) t p counters m room ≡ 0 → ⊥ = λ z. wrong (e ∙ z) in
+      rw (packet-call-refused (stateIn times words) t p counters m room refused, ne-eqb (packetRefusal (stateIn times words) t p counters m room) 0 refused)
+      (ap (λ (n : ℕ). told n 0) e, refl, refl, refl, refl, numbered-none before)
 
-  -- a quiet one: nothing but the counter table and the latest time changes
-  pub packet-quiet : (table : List ℕ) → quietCall s m t p counters room ≡ true → table ≡ countedTable p counters
-      → length (s .core .since) ≤ 5 → length (s .core .half) ≤ roomCount
-      → PacketEnd s t p counters m room (accepted t 0 (s .core)) table m before before
-  packet-quiet table e counted l g = rw (quiet-call s m t p counters room e l g) (refl, counted, refl, numbered-none before)
+  -- a quiet one: nothing but one table byte and the latest time changes
+  pub packet-quiet : Sized times words → Right t p counters room → (table : List ℕ) → quietCall (stateIn times words) m t p (getD counters (pidOf p) 0) ≡ true → table ≡ countedTable p counters
+      → PacketLaid called (told 0 0) times (set times 0 t) words words table m before before
+  packet-quiet sized right table e counted =
+      let d = quiet-done times words sized t p counters m room right e in
+      (d .0, d .1, d .2, counted ∙ d .3, d .4, rw (d .5) (numbered-none before))
 
   abbrev late : List Event
-  late = lateOf (s .latest) t (s .core)
+  late = lateOf (getD times 0 0) t (coreIn times words)
 
-  pub packet-done : (mid : List ℕ) (i : ℕ) (c : Core) (table left after : List ℕ) (r : ℕ)
-      → packetRefusal s t p counters m room ≡ 0 → t ≤ latestTime → pidOf p < 65536
+  pub packet-done : {mid : List ℕ} {i : ℕ} {c : Core} {table left after : List ℕ} {r : ℕ} {timesLeft wordsLeft : List ℕ}
+      → packetRefusal (stateIn times words) t p counters m room ≡ 0 → t ≤ latestTime → pidOf p < 65536
       → i ≡ length late → mid ≡ eventsLaid before 0 late → i ≤ 21 → AllFit late
-      → Done (step1 t p counters (heldOf s m)) 65 c table left mid i after r
-      → PacketEnd s t p counters m room (accepted t r c) table left before after
-  packet-done mid i c table left after r e ht hp ei el few fits done =
-      let own = step1 t p counters (heldOf s m) .events in
+      → Done (step1 t p counters (held (coreIn times words) m)) 65 c table left mid i after r
+      → timesLeft ≡ timesOf (record { latest = t; core = c }) → wordsLeft ≡ wordsOf (record { latest = t; core = c })
+      → PacketLaid called (told 0 r) times timesLeft words wordsLeft table left before after
+  unfolding stateIn timesAfter wordsAfter
+  packet-done {mid = mid} {i = i} {c = c} {after = after} {r = r} e ht hp ei el few fits done et ew =
+      let own = step1 t p counters (held (coreIn times words) m) .events in
       let from : i ≡ 0 + length late = omega (arith, ei) in
       let w = laid-turn numbersOf 4 (λ e. refl) 0 i r before mid after late own from el (done .next) (done .laid) in
       let n : r ≡ length (late ++ own) = omega (arith, w .0) in
-      rw (packet-call-accepted s t p counters m room e) (
-        ap₂ (accepted t) n (done .core),
+      rw (packet-call-accepted (stateIn times words) t p counters m room e) (
+        ap (told 0) n,
+        et ∙ ap (λ (k : Core). timesOf (record { latest = t; core = k })) (done .core),
+        ew ∙ ap (λ (k : Core). wordsOf (record { latest = t; core = k })) (done .core),
         done .counters,
         done .memory,
         record {
           laid = w .1;
-          fits = all-fit-append late own fits (step1-fits t (omega arith) p hp counters (heldOf s m));
+          fits = all-fit-append late own fits (step1-fits t (omega arith) p hp counters (held (coreIn times words) m));
           few = omega (arith, w .0, done .few);
         },
       )
 
--- A CLOCK CALL: its answer and the numbers
-abbrev pub ClockEnd : State → ℕ → List ℕ → ℕ → Answer → List ℕ → List ℕ → Type 0
-ClockEnd s t m room a before after = (a ≡ answerOf (clockCall s t m room)) × Numbered before after (clockCall s t m room .events)
+-- A CLOCK CALL on two arrays
+module _ (times words : List ℕ) (t : ℕ) (m : List ℕ) (room : ℕ) (before : List ℕ) where
+  abbrev clocked : Result
+  clocked = clockCall (stateIn times words) t m room
 
-module _ (s : State) (t : ℕ) (m : List ℕ) (room : ℕ) (before : List ℕ) where
-  pub clock-refused : (number : ℕ) → number ≡ clockRefusal s t m room → (number ≡ 0 → ⊥) → ClockEnd s t m room (refused number s) before before
+  pub clock-refused : (number : ℕ) → number ≡ clockRefusal (stateIn times words) t m room → (number ≡ 0 → ⊥)
+      → ClockLaid clocked (record { refusal = number; n = 0 }) times times words words before before
+  unfolding timesAfter wordsAfter
   clock-refused number e wrong =
-      rw (clock-call-refused s t m room (λ z. wrong (e ∙ z))) (ap (λ n. refused n s) e, numbered-none before)
+      let refused : clockRefusal (stateIn times words) t m room ≡ 0 → ⊥ = λ z. wrong (e ∙ z) in
+      rw (clock-call-refused (stateIn times words) t m room refused, ne-eqb (clockRefusal (stateIn times words) t m room) 0 refused)
+      (ap (λ (n : ℕ). record { refusal = n; n = 0 }) e, refl, refl, numbered-none before)
 
-  pub clock-done : (after : List ℕ) (i : ℕ) → clockRefusal s t m room ≡ 0
-      → i ≡ length (lateOf (s .latest) t (s .core)) → after ≡ eventsLaid before 0 (lateOf (s .latest) t (s .core)) → i ≤ 21 → AllFit (lateOf (s .latest) t (s .core))
-      → ClockEnd s t m room (accepted t i (s .core)) before after
-  clock-done after i e ei el few fits =
-      rw (clock-call-accepted s t m room e)
-      (ap (λ n. accepted t n (s .core)) ei, record { laid = el; fits = fits; few = omega (arith, ei) })
+  pub clock-done : {after : List ℕ} {i : ℕ} {timesLeft wordsLeft : List ℕ} → clockRefusal (stateIn times words) t m room ≡ 0
+      → i ≡ length (lateOf (getD times 0 0) t (coreIn times words)) → after ≡ eventsLaid before 0 (lateOf (getD times 0 0) t (coreIn times words)) → i ≤ 21
+      → AllFit (lateOf (getD times 0 0) t (coreIn times words))
+      → timesLeft ≡ timesOf (record { latest = t; core = coreIn times words }) → wordsLeft ≡ wordsOf (record { latest = t; core = coreIn times words })
+      → ClockLaid clocked (record { refusal = 0; n = i }) times timesLeft words wordsLeft before after
+  unfolding stateIn timesAfter wordsAfter
+  clock-done e ei el few fits et ew =
+      rw (clock-call-accepted (stateIn times words) t m room e)
+      (ap (λ (n : ℕ). record { refusal = 0; n = n }) ei, et, ew, record { laid = el; fits = fits; few = omega (arith, ei) })

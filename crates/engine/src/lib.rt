@@ -1,45 +1,18 @@
 // The calls over numbers (document 01, "The calls and their numbers"): four numbers to an event. The crate
-// `probe` hands them over as records.
+// `probe` hands them over as records. In `lent` the state is that of two lent arrays; here it goes by value.
+mod lent;
+
 use calls::Answer;
 use calls::Core;
 use calls::State;
+pub use lent::clock_in;
+pub use lent::packet_in;
 use watches::Entry;
 ghost use mathlib.Core.Path.{_≡_};
-ghost use Prim.Native.Nat.{ℕ, _<_, _≤_};
-ghost use lib.ListN.{length, getD, replicate};
-ghost use Rattle.events.specs.Events.{eventsLaid};
-ghost use Rattle.watches.specs.Tables.{noEntry, latestTime};
-ghost use Rattle.sections.specs.Rooms.{memorySize};
-ghost use Rattle.programmes.specs.Listing.{mostListed};
-ghost use Rattle.calls.specs.Cores.{lateOf, openedState};
+ghost use lib.ListN.{length, replicate};
+ghost use Rattle.calls.specs.Cores.{openedState};
 ghost use Rattle.calls.specs.Calls.{openAnswer, openTable, packetCall, clockCall, answerOf};
-ghost use Rattle.engine.specs.Numbers.{AllFit, Numbered};
-
-fn bytes_in(s: &[u8]) -> usize
-    ensures { λ r. ⌜ r ≡ length (now (s .entry)) ⌝ }
-{
-    s.len()
-}
-
-fn numbers_in(s: &[u64]) -> usize
-    ensures { λ r. ⌜ r ≡ length (now (s .entry)) ⌝ }
-{
-    s.len()
-}
-
-// Section memory has its length by its type: a call of this shows it.
-fn memory_size(memory: &[u8; 24576]) -> usize
-    ensures { λ r. ⌜ (r ≡ memorySize) × (length (now (memory .entry)) ≡ memorySize) ⌝ }
-{
-    bytes_in(memory)
-}
-
-// So has the list of numbers: room for 96 events.
-fn numbers_size(numbers: &[u64; 384]) -> usize
-    ensures { λ r. ⌜ (r ≡ 384) × (length (now (numbers .entry)) ≡ 384) ⌝ }
-{
-    numbers_in(numbers)
-}
+ghost use Rattle.engine.specs.Numbers.{Numbered};
 
 // The state of an opening.
 fn opened_at(time: u64) -> State
@@ -73,19 +46,6 @@ fn clear(counters: &mut [u8])
     }
 }
 
-// The late events of a call, laid first; how many there are.
-fn judge_late(core: Core, latest: u64, time: u64, numbers: &mut [u64]) -> usize
-    requires { ⌜ (384 ≤ length (now numbers)) × (core .count ≤ mostListed) × ((k : ℕ) → getD (core .since) k 0 ≤ latestTime)
-        × ((k : ℕ) → k < core .count → getD (core .entries) k noEntry .since ≤ latestTime) ⌝ }
-    ensures { λ r. ⌜ (r ≡ length (lateOf latest time core)) × (now (numbers .exit) ≡ eventsLaid (now (numbers .entry)) 0 (lateOf latest time core))
-        × (r ≤ 21) × AllFit (lateOf latest time core) ⌝ }
-{
-    let since = core.since;
-    let entries = core.entries;
-    let next = watches::late_tables(numbers, 0, latest, time, since);
-    watches::late_entries(numbers, next, latest, time, entries, core.count)
-}
-
 // Opening: the table's bytes are set to 0 only where it is accepted.
 pub fn open_at(time: u64, counters: &mut [u8]) -> Answer
     ensures { λ r. ⌜ (r ≡ openAnswer time (now (counters .entry))) × (now (counters .exit) ≡ openTable time (now (counters .entry))) ⌝ }
@@ -106,47 +66,8 @@ pub fn open_at(time: u64, counters: &mut [u8]) -> Answer
     }
 }
 
-// A packet call made in all its steps: the late events, then those of the packet. A refusal hands back what it
-// was given.
-pub fn whole_packet_at(
-    state: State,
-    time: u64,
-    packet: &[u8],
-    counters: &mut [u8],
-    memory: &mut [u8; 24576],
-    room: usize,
-    numbers: &mut [u64; 384],
-) -> Answer
-    ensures { λ r. ⌜ (r ≡ answerOf (packetCall state time (now (packet .entry)) (now (counters .entry)) (now (memory .entry)) room))
-        × (now (counters .exit) ≡ packetCall state time (now (packet .entry)) (now (counters .entry)) (now (memory .entry)) room .counters)
-        × (now (memory .exit) ≡ packetCall state time (now (packet .entry)) (now (counters .entry)) (now (memory .entry)) room .memory)
-        × Numbered (now (numbers .entry)) (now (numbers .exit)) (packetCall state time (now (packet .entry)) (now (counters .entry)) (now (memory .entry)) room .events) ⌝ }
-{
-    let size = memory_size(memory);
-    let places = numbers_size(numbers);
-    let refusal = checks::packet_refusal(state, time, packet, counters, memory, room);
-    if refusal != 0 {
-        return Answer {
-            refusal: refusal,
-            n: 0,
-            state: state,
-        };
-    }
-    let core = state.core;
-    let late = judge_late(core, state.latest, time, numbers);
-    let stepped = steps::judge_packet(core, time, packet, counters, memory, numbers, late);
-    let after = stepped.core;
-    Answer {
-        refusal: 0,
-        n: stepped.n,
-        state: State {
-            latest: time,
-            core: after,
-        },
-    }
-}
-
-// A packet call, for an event list of `room` records. Most are quiet, and done where that is seen.
+// A packet call, for an event list of `room` records. Most are quiet, and done where that is seen; for any other the state
+// is laid into arrays, and read from them where the call is accepted.
 pub fn packet_at(
     state: State,
     time: u64,
@@ -161,7 +82,22 @@ pub fn packet_at(
         × (now (memory .exit) ≡ packetCall state time (now (packet .entry)) (now (counters .entry)) (now (memory .entry)) room .memory)
         × Numbered (now (numbers .entry)) (now (numbers .exit)) (packetCall state time (now (packet .entry)) (now (counters .entry)) (now (memory .entry)) room .events) ⌝ }
 {
-    if quiet::quiet_value(state, time, packet, counters, memory, room) {
+    let size = lent::memory_size(memory);
+    let shape = arrays::typed(state);
+    let refusal = checks::sizes_refusal(time, packet, counters, room);
+    if refusal != 0 {
+        return Answer {
+            refusal: refusal,
+            n: 0,
+            state: state,
+        };
+    }
+    let h = header::read(packet);
+    let pid = h.pid as usize;
+    let byte = counters[pid];
+    let g = quiet::quiet_value(state, memory, time, packet, h, byte);
+    if g.quiet {
+        counters[pid] = g.byte;
         let same = state.core;
         return Answer {
             refusal: 0,
@@ -172,7 +108,34 @@ pub fn packet_at(
             },
         };
     }
-    whole_packet_at(state, time, packet, counters, memory, room, numbers)
+    let mut times = [0u64; 22];
+    let mut words = [0u16; 56];
+    arrays::lay_times(state, &mut times);
+    arrays::lay_words(state, &mut words);
+    let r = lent::loud_packet(
+        &mut times,
+        &mut words,
+        time,
+        packet,
+        h,
+        byte,
+        counters,
+        memory,
+        room,
+        numbers,
+    );
+    if r.refusal != 0 {
+        return Answer {
+            refusal: r.refusal,
+            n: 0,
+            state: state,
+        };
+    }
+    Answer {
+        refusal: 0,
+        n: r.n,
+        state: arrays::state_in(&times, &words),
+    }
 }
 
 // A clock call, for an event list of `room` records: the late events alone.
@@ -186,24 +149,22 @@ pub fn clock_at(
     ensures { λ r. ⌜ (r ≡ answerOf (clockCall state time (now (memory .entry)) room))
         × Numbered (now (numbers .entry)) (now (numbers .exit)) (clockCall state time (now (memory .entry)) room .events) ⌝ }
 {
-    let size = memory_size(memory);
-    let places = numbers_size(numbers);
-    let refusal = checks::clock_refusal(state, time, memory, room);
-    if refusal != 0 {
+    let shape = arrays::typed(state);
+    let mut times = [0u64; 22];
+    let mut words = [0u16; 56];
+    arrays::lay_times(state, &mut times);
+    arrays::lay_words(state, &mut words);
+    let r = lent::clock_in(&mut times, &mut words, time, memory, room, numbers);
+    if r.refusal != 0 {
         return Answer {
-            refusal: refusal,
+            refusal: r.refusal,
             n: 0,
             state: state,
         };
     }
-    let core = state.core;
-    let late = judge_late(core, state.latest, time, numbers);
     Answer {
         refusal: 0,
-        n: late,
-        state: State {
-            latest: time,
-            core: core,
-        },
+        n: r.n,
+        state: arrays::state_in(&times, &words),
     }
 }

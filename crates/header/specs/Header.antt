@@ -14,6 +14,8 @@
 --   payloadAt p     == where the packet's begins
 --   payloadOf p     == the part of the packet after its header and adaptation field
 --   headerOf p      == all of it
+--   Seen p counters h b == what a call reads of the packet p once: its header h, and the byte b of its PID in the counter table
+use mathlib.Core.Path.{_≡_}
 use Prim.Native.Nat.{ℕ, _+_, _*_, _/_, _%_}
 use mathlib.Core.Bool.{Bool, true, cond, _&&_, _||_}
 use mathlib.Core.List.{List}
@@ -82,3 +84,7 @@ headerOf p =
       discontinuity = indicator p;
       payload = payloadAt p;
     }
+
+pub record Seen (p counters : List ℕ) (h : Header) (b : ℕ) : Type 0 where
+  pub header : h ≡ headerOf p
+  pub byte : b ≡ getD counters (pidOf p) 0

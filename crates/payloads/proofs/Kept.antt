@@ -23,9 +23,8 @@ use Rattle.programmes.proofs.Moves.{placed}
 use Rattle.calls.specs.declared.Core.{Core}
 use Rattle.calls.specs.Cores.{Held, listed}
 use Rattle.calls.specs.Steps.{arrivedTable, arrivedProgramme, newList, listedBy, relisted, bytesOf, absorbedBy, absorbedAll}
-use Rattle.payloads.specs.declared.Taken.{Taken}
 use Rattle.payloads.specs.Taking.{held}
-use Rattle.payloads.specs.Parts.{acted, Shown, Fit}
+use Rattle.payloads.specs.Parts.{acted, Left, Shown, Fit}
 use Rattle.payloads.proofs.Apart.{bytes-length}
 
 abbrev Small : List ℕ → Type 0
@@ -68,7 +67,7 @@ module _ (t r pid : ℕ) (c : Core) (m : List ℕ) (most : c .count ≤ 16) (kep
       go false false = record { whole = kept .whole; rooms = kept .rooms; halves = kept .halves }
 
 -- so what acts leaves enough for the next to act
-pub fit-acted : (t r pid : ℕ) (g : Stage) (x : List ℕ) (c : Core) (m list m′ list′ : List ℕ) (n : ℕ) (a : Taken)
+pub fit-acted : (t r pid : ℕ) (g : Stage) (x : List ℕ) (c : Core) (m list m′ list′ : List ℕ) (n : ℕ) (a : Left)
     → Fit c m list → Shown (acted t r pid g x (held c m)) n list list′ m′ a → a .core .count ≤ 16 → Fit (a .core) m′ list′
 fit-acted t r pid g x c m list m′ list′ n a f s most =
     let k = action-kept t r pid c m (f .listed) (record { whole = f .whole; rooms = f .rooms; halves = f .halves }) (stepOutcome r pid g x) x in

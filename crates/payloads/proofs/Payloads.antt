@@ -1,5 +1,5 @@
 -- A payload: what goes on, and what begins. Assumes nothing.
-use mathlib.Core.Path.{_≡_, refl, sym, ap, _∙_}
+use mathlib.Core.Path.{_≡_, refl, sym, ap, subst, _∙_}
 use mathlib.Core.Bool.{Bool, true, false, true≢false}
 use mathlib.Core.List.{List, [], _∷_, append-nil}
 use Prim.Native.Nat.{ℕ, _+_, _-_, _≤_, _<_}
@@ -26,10 +26,8 @@ use Rattle.sections.proofs.Takes.{laid-size, laid-short, laid-fits, section-ste
 use Rattle.programmes.specs.Places.{halfAt}
 use Rattle.calls.specs.declared.Core.{Core}
 use Rattle.calls.specs.Steps.{Absorbed, absorbedAll, absorbed, sectionsTaken}
-use Rattle.payloads.specs.declared.Taken.{Taken}
-use Rattle.payloads.specs.declared.Resumed.{Resumed}
 use Rattle.payloads.specs.Taking.{held}
-use Rattle.payloads.specs.Parts.{cameTo, acted, newSections, goingOn, isStopped, isBad, finished, Shown, Gone, Fit}
+use Rattle.payloads.specs.Parts.{cameTo, acted, newSections, goingOn, isStopped, isBad, Left, finished, Shown, Went, Gone, Fit}
 use Rattle.payloads.proofs.Actions.{led, inMemory, came-behind}
 use Rattle.payloads.proofs.Kept.{few-kept}
 use Rattle.payloads.proofs.Sections.{empty, step-waits}
@@ -64,52 +62,61 @@ gone-none t r pid m n s c place list z =
     let e = ap (λ j. fed r j s) (going-none m n (eq-eqb n 0 z)) ∙ fed-done r (record { mode = done; memory = m; half = n; finished = [] }) s refl in
     rw e (record { shown = record { core = refl; memory = refl; next = sym (add-zero place); laid = sym (laid-none numbersOf 4 list place) }; half = sym z; stop = refl })
 
--- one is
-module _ (t r pid : ℕ) (m : List ℕ) (n : ℕ) (s : List ℕ) (l : Laid) (m′ : List ℕ) (c : Core) (place : ℕ) (list : List ℕ) (below : r < roomCount)
-    (fit : Fit c m list) (more : isMore (stageOf (greatestLength r) (halfBuilt m r n)) ≡ true)
-    (el : l ≡ laidOf (greatestLength r) (halfBuilt m r n) n s) (em : m′ ≡ laidIn r m n (take (l .taken) s)) (some : n ≡ 0 → ⊥) where
+-- one is, and a step lays bytes behind it
+pub record HalfBuilt (r : ℕ) (m : List ℕ) (n : ℕ) (s : List ℕ) (l : Laid) (m′ : List ℕ) (c : Core) (list : List ℕ) : Type 0 where
+  pub room : r < roomCount
+  pub fit : Fit c m list
+  pub more : isMore (stageOf (greatestLength r) (halfBuilt m r n)) ≡ true
+  pub step : l ≡ laidOf (greatestLength r) (halfBuilt m r n) n s
+  pub memory : m′ ≡ laidIn r m n (take (l .taken) s)
+  pub some : n ≡ 0 → ⊥
+
+module _ {r : ℕ} {m : List ℕ} {n : ℕ} {s : List ℕ} {l : Laid} {m′ : List ℕ} {c : Core} {list : List ℕ} (q : HalfBuilt r m n s l m′ c list) where
   starts : (x : List ℕ) → Starts n x
   starts [] = tt
-  starts (b ∷ x) = rw (ne-eqb n 0 some)
+  starts (b ∷ x) = rw (ne-eqb n 0 (q .some))
 
   pub going-fit : Fit c m′ list
   going-fit =
       record {
-        whole = laid-size r m n s l m′ below (fit .whole) more el em;
-        listed = fit .listed;
-        rooms = fit .rooms;
-        halves = fit .halves;
-        numbers = fit .numbers;
+        whole = laid-size r m n s l m′ (q .room) (q .fit .whole) (q .more) (q .step) (q .memory);
+        listed = q .fit .listed;
+        rooms = q .fit .rooms;
+        halves = q .fit .halves;
+        numbers = q .fit .numbers;
       }
 
   pub going-inside : roomBase r + l .length ≤ memorySize
-  going-inside = laid-fits r m n s l m′ below (fit .whole) more el em
+  going-inside = laid-fits r m n s l m′ (q .room) (q .fit .whole) (q .more) (q .step) (q .memory)
 
   pub going-short : l .length ≤ 4096
-  going-short = omega (arith, laid-short r m n s l m′ below (fit .whole) more el em, greatest-most r)
+  going-short = omega (arith, laid-short r m n s l m′ (q .room) (q .fit .whole) (q .more) (q .step) (q .memory), greatest-most r)
 
-  pub gone-waits : isMore (l .stage) ≡ true
-      → Gone t r pid (fed r (goingOn m n) s) c place list list m′ (record { core = c; n = place; half = l .length; stopped = false })
-  unfolding absorbedAll
-  gone-waits e =
-      let z = ap (λ j. fed r j s) (going-some m n (ne-eqb n 0 some)) ∙ step-waits t r pid m n s l m′ below (fit .whole) more el em going goes (starts s) e in
-      rw z (record { shown = record { core = refl; memory = refl; next = sym (add-zero place); laid = sym (laid-none numbersOf 4 list place) }; half = refl; stop = refl })
+  module _ (t pid place : ℕ) where
+    pub gone-waits : isMore (l .stage) ≡ true
+        → Gone t r pid (fed r (goingOn m n) s) c place list list m′ (record { core = c; n = place; half = l .length; stopped = false })
+    unfolding absorbedAll
+    gone-waits e =
+        let z = ap (λ j. fed r j s) (going-some m n (ne-eqb n 0 (q .some))) ∙ step-waits t r pid m n s l m′ (q .room) (q .fit .whole) (q .more) (q .step) (q .memory) going goes (starts s) e in
+        rw z (record { shown = record { core = refl; memory = refl; next = sym (add-zero place); laid = sym (laid-none numbersOf 4 list place) }; half = refl; stop = refl })
 
-  pub gone-acts : (b : Taken) (m″ list′ : List ℕ) → Shown (acted t r pid (l .stage) (halfBuilt m′ r (l .length)) (held c m′)) place list list′ m″ b → isMore (l .stage) ≡ false
-      → Gone t r pid (fed r (goingOn m n) s) c place list list′ m″ (record { core = b .core; n = b .n; half = 0; stopped = isBad (l .stage) })
-  unfolding absorbedAll
-  gone-acts b m″ list′ sh e = rw (ap (λ j. fed r j s) (going-some m n (ne-eqb n 0 some)) ∙ section-step r m n s l m′ below (fit .whole) more el em going [] goes (starts s)) (go (l .stage) e sh)
-    where
-      go : (g : Stage) → isMore g ≡ false → Shown (acted t r pid g (halfBuilt m′ r (l .length)) (held c m′)) place list list′ m″ b
-          → Gone t r pid (fed r (ended g (halfBuilt m′ r (l .length)) (record { mode = going; memory = m′; half = l .length; finished = [] })) (drop (l .taken) s)) c place list list′ m″ (record { core = b .core; n = b .n; half = 0; stopped = isBad g })
-      go More e sh = absurd (true≢false e)
-      go Bad e sh =
-          rw (fed-stopped r (record { mode = stopped; memory = m′; half = 0; finished = badLength ∷ [] }) (drop (l .taken) s) refl)
-          (record { shown = record { core = sh .core; memory = sh .memory; next = sh .next; laid = sh .laid }; half = refl; stop = refl })
-      go Whole e sh =
-          let x = whole (halfBuilt m′ r (l .length)) in
-          rw (fed-done r (record { mode = done; memory = m′; half = 0; finished = x ∷ [] }) (drop (l .taken) s) refl)
-          (record { shown = rw (append-nil (absorbed t r pid x (held c m′) .events)) (record { core = sh .core; memory = sh .memory; next = sh .next; laid = sh .laid }); half = refl; stop = refl })
+    pub gone-acts : {b : Left} {m″ list′ : List ℕ} → Shown (acted t r pid (l .stage) (halfBuilt m′ r (l .length)) (held c m′)) place list list′ m″ b → isMore (l .stage) ≡ false
+        → Gone t r pid (fed r (goingOn m n) s) c place list list′ m″ (record { core = b .core; n = b .n; half = 0; stopped = isBad (l .stage) })
+    unfolding absorbedAll
+    gone-acts {b = b} {m″ = m″} {list′ = list′} sh e =
+        rw (ap (λ j. fed r j s) (going-some m n (ne-eqb n 0 (q .some))) ∙ section-step r m n s l m′ (q .room) (q .fit .whole) (q .more) (q .step) (q .memory) going [] goes (starts s))
+        (go (l .stage) e sh)
+      where
+        go : (g : Stage) → isMore g ≡ false → Shown (acted t r pid g (halfBuilt m′ r (l .length)) (held c m′)) place list list′ m″ b
+            → Gone t r pid (fed r (ended g (halfBuilt m′ r (l .length)) (record { mode = going; memory = m′; half = l .length; finished = [] })) (drop (l .taken) s)) c place list list′ m″ (record { core = b .core; n = b .n; half = 0; stopped = isBad g })
+        go More e sh = absurd (true≢false e)
+        go Bad e sh =
+            rw (fed-stopped r (record { mode = stopped; memory = m′; half = 0; finished = badLength ∷ [] }) (drop (l .taken) s) refl)
+            (record { shown = record { core = sh .core; memory = sh .memory; next = sh .next; laid = sh .laid }; half = refl; stop = refl })
+        go Whole e sh =
+            let x = whole (halfBuilt m′ r (l .length)) in
+            rw (fed-done r (record { mode = done; memory = m′; half = 0; finished = x ∷ [] }) (drop (l .taken) s) refl)
+            (record { shown = rw (append-nil (absorbed t r pid x (held c m′) .events)) (record { core = sh .core; memory = sh .memory; next = sh .next; laid = sh .laid }); half = refl; stop = refl })
 
 -- AND THEN: what the half-built section came to acts first
 few-behind : (t r pid : ℕ) (fs : List Finished) → length fs ≤ 1 → (j : Job) (s : List ℕ) (c : Core) (m₀ : List ℕ) → SoundJob r j → 5 ≤ length (c .half)
@@ -124,22 +131,31 @@ few-behind t r pid (f ∷ []) h j s c m₀ q halves =
     ∙ ap (λ es. led es (cameTo t r pid (fed r (inMemory (a .held .memory) j) s) (a .held))) (sym (append-nil (a .events)))
 few-behind t r pid (f ∷ g ∷ fs) h j s c m₀ q halves = absurd (omega arith)
 
+-- what is left, by another name
+pub shown-as : {a : Absorbed} {n : ℕ} {list₀ list m : List ℕ} {g g′ : Left} → g ≡ g′ → Shown a n list₀ list m g → Shown a n list₀ list m g′
+shown-as {a = a} {n = n} {list₀ = list₀} {list = list} {m = m} e x = subst (λ (g : Left). Shown a n list₀ list m g) e x
+
 -- one after the other
-pub shown-led : (a b : Absorbed) (n : ℕ) (list₀ list list′ m m′ : List ℕ) (g g′ : Taken)
+pub shown-led : (a b : Absorbed) (n : ℕ) (list₀ list list′ m m′ : List ℕ) (g g′ : Left)
     → Shown a n list₀ list m g → Shown b (g .n) list list′ m′ g′ → Shown (led (a .events) b) n list₀ list′ m′ g′
 shown-led a b n list₀ list list′ m m′ g g′ x y =
     let w = laid-turn numbersOf 4 (λ e. refl) n (g .n) (g′ .n) list₀ list list′ (a .events) (b .events) (x .next) (x .laid) (y .next) (y .laid) in
     record { core = y .core; memory = y .memory; next = w .0; laid = w .1 }
 
 -- an idle job leaves the room as it says
-pub shown-idle : (t r pid : ℕ) (j : Job) (c : Core) (n half : ℕ) (list : List ℕ) (g : Taken) → j .finished ≡ [] → half ≡ j .half → g ≡ finished r half c n
+pub shown-idle : (t r pid : ℕ) (j : Job) (c : Core) (n half : ℕ) (list : List ℕ) (g : Left) → j .finished ≡ [] → half ≡ j .half → g ≡ finished r half c n
     → Shown (cameTo t r pid j (held c (j .memory))) n list list (j .memory) g
 unfolding absorbedAll
 shown-idle t r pid j c n half list g e eh eg =
     rw (e, eg, eh) (record { core = refl; memory = refl; next = sym (add-zero n); laid = sym (laid-none numbersOf 4 list n) })
 
-module _ (t r pid : ℕ) (m : List ℕ) (n : ℕ) (s : List ℕ) (c : Core) (place : ℕ) (list : List ℕ) (fit : Fit c m list)
-    (more : isMore (stageOf (greatestLength r) (halfBuilt m r n)) ≡ true) where
+-- a half-built section has gone on: what it came to, and what it was given
+pub record Resuming (t r pid : ℕ) (m : List ℕ) (n : ℕ) (s : List ℕ) (c : Core) (place : ℕ) (list list₁ m₁ : List ℕ) (g : Went) : Type 0 where
+  pub fit : Fit c m list
+  pub more : isMore (stageOf (greatestLength r) (halfBuilt m r n)) ≡ true
+  pub gone : Gone t r pid (fed r (goingOn m n) s) c place list list₁ m₁ g
+
+module _ {t r pid : ℕ} {m : List ℕ} {n : ℕ} {s : List ℕ} {c : Core} {place : ℕ} {list list₁ m₁ : List ℕ} {g : Went} (q : Resuming t r pid m n s c place list list₁ m₁ g) where
   abbrev job : Job
   job = fed r (goingOn m n) s
 
@@ -148,7 +164,7 @@ module _ (t r pid : ℕ) (m : List ℕ) (n : ℕ) (s : List ℕ) (c : Core) (pla
 
   sound : (md : Mode) (half : ℕ) → isMore (stageOf (greatestLength r) (halfBuilt (job .memory) r half)) ≡ true
       → SoundJob r (record { mode = md; memory = job .memory; half = half; finished = [] })
-  sound md half e = record { size = fed-sound r (goingOn m n) s (record { size = fit .whole; more = more }) .size; more = e }
+  sound md half e = record { size = fed-sound r (goingOn m n) s (record { size = q .fit .whole; more = q .more }) .size; more = e }
 
   -- the job that follows, in the mode and with the bytes at hand that are left to it
   next-acts : (md : Mode) (half : ℕ) (s′ : List ℕ) → isMore (stageOf (greatestLength r) (halfBuilt (job .memory) r half)) ≡ true
@@ -156,54 +172,53 @@ module _ (t r pid : ℕ) (m : List ℕ) (n : ℕ) (s : List ℕ) (c : Core) (pla
       ≡ led (acts .events) (cameTo t r pid (fed r (record { mode = md; memory = acts .held .memory; half = half; finished = [] }) s′) (acts .held))
   next-acts md half s′ e =
       ap (λ fs. cameTo t r pid (fed r (record { mode = md; memory = job .memory; half = half; finished = fs }) s′) (held c m)) (sym (append-nil (job .finished)))
-      ∙ few-behind t r pid (job .finished) (resumed-most r (begunJob m n) s) (record { mode = md; memory = job .memory; half = half; finished = [] }) s′ c m (sound md half e) (fit .rooms)
+      ∙ few-behind t r pid (job .finished) (resumed-most r (begunJob m n) s) (record { mode = md; memory = job .memory; half = half; finished = [] }) s′ c m (sound md half e) (q .fit .rooms)
 
-  module _ (list₁ m₁ : List ℕ) (g : Resumed) (gone : Gone t r pid job c place list list₁ m₁ g) where
-    abbrev after : Taken
-    after = record { core = g .core; n = g .n }
+  abbrev after : Left
+  after = record { core = g .core; n = g .n }
 
-    pub gone-fit : g .core .count ≤ 16 → Fit (g .core) m₁ list₁
-    gone-fit most =
-        let whole = fed-sound r (goingOn m n) s (record { size = fit .whole; more = more }) .size in
-        let k = few-kept t r pid (job .finished) (resumed-most r (begunJob m n) s) c (job .memory) (fit .listed) (record { whole = whole; rooms = fit .rooms; halves = fit .halves }) in
-        record {
-          whole = ap length (gone .shown .memory) ∙ k .whole;
-          listed = most;
-          rooms = rw (gone .shown .core) (k .rooms);
-          halves = rw (gone .shown .core) (k .halves);
-          numbers = omega (arith, fit .numbers, ap length (gone .shown .laid) ∙ laid-length numbersOf 4 list place (acts .events));
-        }
+  pub gone-fit : g .core .count ≤ 16 → Fit (g .core) m₁ list₁
+  gone-fit most =
+      let whole = fed-sound r (goingOn m n) s (record { size = q .fit .whole; more = q .more }) .size in
+      let k = few-kept t r pid (job .finished) (resumed-most r (begunJob m n) s) c (job .memory) (q .fit .listed) (record { whole = whole; rooms = q .fit .rooms; halves = q .fit .halves }) in
+      record {
+        whole = ap length (q .gone .shown .memory) ∙ k .whole;
+        listed = most;
+        rooms = rw (q .gone .shown .core) (k .rooms);
+        halves = rw (q .gone .shown .core) (k .halves);
+        numbers = omega (arith, q .fit .numbers, ap length (q .gone .shown .laid) ∙ laid-length numbersOf 4 list place (acts .events));
+      }
 
-    -- nothing more is read
-    next-idle : (md : Mode) (half : ℕ) (s′ : List ℕ) → isMore (stageOf (greatestLength r) (halfBuilt (job .memory) r half)) ≡ true
-        → fed r (record { mode = md; memory = acts .held .memory; half = half; finished = [] }) s′ ≡ record { mode = md; memory = acts .held .memory; half = half; finished = [] }
-        → (x : Taken) (size : ℕ) → size ≡ half → x ≡ finished r size (g .core) (g .n)
-        → Shown (cameTo t r pid (fed r (record { mode = md; memory = job .memory; half = half; finished = job .finished }) s′) (held c m)) place list list₁ m₁ x
-    next-idle md half s′ e idle x size eh ex =
-        let j : Job = record { mode = md; memory = acts .held .memory; half = half; finished = [] } in
-        let core = ex ∙ ap (λ k. finished r size k (g .n)) (gone .shown .core) in
-        rw (next-acts md half s′ e ∙ ap (λ k. led (acts .events) (cameTo t r pid k (acts .held))) idle, gone .shown .memory)
-        (shown-led acts (cameTo t r pid j (acts .held)) place list list₁ list₁ m₁ (acts .held .memory) after x (gone .shown) (shown-idle t r pid j (acts .held .core) (g .n) size list₁ x refl eh core))
+  -- nothing more is read
+  next-idle : (md : Mode) (half : ℕ) (s′ : List ℕ) → isMore (stageOf (greatestLength r) (halfBuilt (job .memory) r half)) ≡ true
+      → fed r (record { mode = md; memory = acts .held .memory; half = half; finished = [] }) s′ ≡ record { mode = md; memory = acts .held .memory; half = half; finished = [] }
+      → (x : Left) (size : ℕ) → size ≡ half → x ≡ finished r size (g .core) (g .n)
+      → Shown (cameTo t r pid (fed r (record { mode = md; memory = job .memory; half = half; finished = job .finished }) s′) (held c m)) place list list₁ m₁ x
+  next-idle md half s′ e idle x size eh ex =
+      let j : Job = record { mode = md; memory = acts .held .memory; half = half; finished = [] } in
+      let core = ex ∙ ap (λ k. finished r size k (g .n)) (q .gone .shown .core) in
+      rw (next-acts md half s′ e ∙ ap (λ k. led (acts .events) (cameTo t r pid k (acts .held))) idle, q .gone .shown .memory)
+      (shown-led acts (cameTo t r pid j (acts .held)) place list list₁ list₁ m₁ (acts .held .memory) after x (q .gone .shown) (shown-idle t r pid j (acts .held .core) (g .n) size list₁ x refl eh core))
 
-    -- WITHOUT UNIT START
-    pub no-start : (x : Taken) → x ≡ finished r (g .half) (g .core) (g .n) → Shown (cameTo t r pid job (held c m)) place list list₁ m₁ x
-    unfolding fed
-    no-start x e = next-idle (job .mode) (job .half) [] (fed-sound r (goingOn m n) s (record { size = fit .whole; more = more }) .more) refl x (g .half) (gone .half) e
+  -- WITHOUT UNIT START
+  pub no-start : (x : Left) → x ≡ finished r (g .half) (g .core) (g .n) → Shown (cameTo t r pid job (held c m)) place list list₁ m₁ x
+  unfolding fed
+  no-start x e = next-idle (job .mode) (job .half) [] (fed-sound r (goingOn m n) s (record { size = q .fit .whole; more = q .more }) .more) refl x (g .half) (q .gone .half) e
 
-    -- WITH UNIT START: the rest of the payload is ignored, or new sections follow
-    module _ (s₂ : List ℕ) where
-      pub rest-ignored : (x : Taken) → g .stopped ≡ true → x ≡ finished r 0 (g .core) (g .n)
-          → Shown (cameTo t r pid (fed r (restarted job) s₂) (held c m)) place list list₁ m₁ x
-      rest-ignored x e ex =
-          rw (stopped-anew (job .mode) (sym (gone .stop) ∙ e))
-          (next-idle stopped 0 s₂ (empty-more (job .memory) r) (fed-stopped r (empty stopped (acts .held .memory)) s₂ refl) x 0 refl ex)
+  -- WITH UNIT START: the rest of the payload is ignored, or new sections follow
+  module _ (s₂ : List ℕ) where
+    pub rest-ignored : (x : Left) → g .stopped ≡ true → x ≡ finished r 0 (g .core) (g .n)
+        → Shown (cameTo t r pid (fed r (restarted job) s₂) (held c m)) place list list₁ m₁ x
+    rest-ignored x e ex =
+        rw (stopped-anew (job .mode) (sym (q .gone .stop) ∙ e))
+        (next-idle stopped 0 s₂ (empty-more (job .memory) r) (fed-stopped r (empty stopped (acts .held .memory)) s₂ refl) x 0 refl ex)
 
-      pub rest-follows : (x : Taken) (m₂ list₂ : List ℕ) → g .stopped ≡ false → Shown (cameTo t r pid (fed r (newSections m₁) s₂) (held (g .core) m₁)) (g .n) list₁ list₂ m₂ x
-          → Shown (cameTo t r pid (fed r (restarted job) s₂) (held c m)) place list list₂ m₂ x
-      rest-follows x m₂ list₂ e sh =
-          let b = cameTo t r pid (fed r (newSections (acts .held .memory)) s₂) (acts .held) in
-          rw (fresh-anew (job .mode) (sym (gone .stop) ∙ e), next-acts fresh 0 s₂ (empty-more (job .memory) r))
-          (shown-led acts b place list list₁ list₂ m₁ m₂ after x (gone .shown) (rw (gone .shown .core, gone .shown .memory) at sh))
+    pub rest-follows : (x : Left) (m₂ list₂ : List ℕ) → g .stopped ≡ false → Shown (cameTo t r pid (fed r (newSections m₁) s₂) (held (g .core) m₁)) (g .n) list₁ list₂ m₂ x
+        → Shown (cameTo t r pid (fed r (restarted job) s₂) (held c m)) place list list₂ m₂ x
+    rest-follows x m₂ list₂ e sh =
+        let b = cameTo t r pid (fed r (newSections (acts .held .memory)) s₂) (acts .held) in
+        rw (fresh-anew (job .mode) (sym (q .gone .stop) ∙ e), next-acts fresh 0 s₂ (empty-more (job .memory) r))
+        (shown-led acts b place list list₁ list₂ m₁ m₂ after x (q .gone .shown) (rw (q .gone .shown .core, q .gone .shown .memory) at sh))
 
 -- THE WHOLE PAYLOAD
 module _ (t r pid : ℕ) (start : Bool) (s : List ℕ) (c : Core) (m : List ℕ) where

@@ -24,9 +24,8 @@ use Rattle.sections.proofs.Jobs.{SoundJob, empty-more}
 use Rattle.sections.proofs.Takes.{laid-size, laid-fits, laid-three, section-step, laid-out}
 use Rattle.calls.specs.declared.Core.{Core}
 use Rattle.calls.specs.Steps.{Absorbed, absorbedAll}
-use Rattle.payloads.specs.declared.Taken.{Taken}
 use Rattle.payloads.specs.Taking.{held}
-use Rattle.payloads.specs.Parts.{cameTo, acted, newSections, isBad, finished, Shown, Fit}
+use Rattle.payloads.specs.Parts.{cameTo, acted, newSections, isBad, Left, finished, Shown, Fit}
 use Rattle.payloads.proofs.Actions.{led, came-behind}
 use Rattle.payloads.proofs.Kept.{fit-acted}
 
@@ -105,7 +104,7 @@ pub reached-begins : (t r pid : ℕ) (n : ℕ) (list : List ℕ) (j : Job) (s : 
 reached-begins t r pid n list j s c = record { events = []; next = sym (add-zero n); laid = sym (laid-none numbersOf 4 list n); same = refl }
 
 -- a section more has acted
-pub reached-acts : (t r pid : ℕ) (a : Absorbed) (n₀ : ℕ) (list₀ : List ℕ) (j j′ : Job) (s s′ : List ℕ) (c : Core) (n : ℕ) (list list′ : List ℕ) (b : Absorbed) (m : List ℕ) (g : Taken)
+pub reached-acts : (t r pid : ℕ) (a : Absorbed) (n₀ : ℕ) (list₀ : List ℕ) (j j′ : Job) (s s′ : List ℕ) (c : Core) (n : ℕ) (list list′ : List ℕ) (b : Absorbed) (m : List ℕ) (g : Left)
     → Reached t r pid a n₀ list₀ j s c n list → Shown b n list list′ m g
     → cameTo t r pid (fed r j s) (held c (j .memory)) ≡ led (b .events) (cameTo t r pid (fed r j′ s′) (b .held)) → j′ .memory ≡ b .held .memory
     → Reached t r pid a n₀ list₀ j′ s′ (g .core) (g .n) list′
@@ -124,7 +123,7 @@ reached-acts t r pid a n₀ list₀ j j′ s s′ c n list list′ b m g i sh e 
     }
 
 -- the payload ends
-pub reached-ends : (t r pid : ℕ) (a : Absorbed) (n₀ : ℕ) (list₀ : List ℕ) (j : Job) (s : List ℕ) (c : Core) (n : ℕ) (list : List ℕ) (md : Mode) (m : List ℕ) (half : ℕ) (g : Taken)
+pub reached-ends : (t r pid : ℕ) (a : Absorbed) (n₀ : ℕ) (list₀ : List ℕ) (j : Job) (s : List ℕ) (c : Core) (n : ℕ) (list : List ℕ) (md : Mode) (m : List ℕ) (half : ℕ) (g : Left)
     → Reached t r pid a n₀ list₀ j s c n list → fed r j s ≡ record { mode = md; memory = m; half = half; finished = [] } → g ≡ finished r half c n
     → Shown a n₀ list₀ list m g
 unfolding absorbedAll
@@ -144,14 +143,14 @@ module _ (t r pid : ℕ) (a : Absorbed) (n₀ : ℕ) (list₀ s : List ℕ) (at 
       ∙ ap (λ b. fed r (cond b (inMode stopped (newSections m)) (fedBy going r (getD s at 0) (newSections m))) (drop (at + 1) s)) (eq-eqb (getD s at 0) 255 e)
       ∙ fed-stopped r (empty stopped m) (drop (at + 1) s) refl
 
-  pub stuffing-ends : (g : Taken) → at < length s → getD s at 0 ≡ 255 → g ≡ finished r 0 c n → Shown a n₀ list₀ list m g
+  pub stuffing-ends : (g : Left) → at < length s → getD s at 0 ≡ 255 → g ≡ finished r 0 c n → Shown a n₀ list₀ list m g
   stuffing-ends g h e eg = reached-ends t r pid a n₀ list₀ (newSections m) (drop at s) c n list stopped m 0 g reached (stuffed h e) eg
 
   none-left : length s ≤ at → fed r (newSections m) (drop at s) ≡ empty fresh m
   unfolding fed
   none-left h = ap (fed r (newSections m)) (drop-none s at h)
 
-  pub bytes-end : (g : Taken) → length s ≤ at → g ≡ finished r 0 c n → Shown a n₀ list₀ list m g
+  pub bytes-end : (g : Left) → length s ≤ at → g ≡ finished r 0 c n → Shown a n₀ list₀ list m g
   bytes-end g h eg = reached-ends t r pid a n₀ list₀ (newSections m) (drop at s) c n list fresh m 0 g reached (none-left h) eg
 
 -- ONE SECTION MORE: a step at the place `at` of the bytes s, which is no stuffing
@@ -184,12 +183,12 @@ module _ {r : ℕ} {s : List ℕ} {at : ℕ} {c : Core} {m list : List ℕ} {l :
   section-three e = laid-three r m 0 (drop at s) l m′ (q .room) (q .fit .whole) (empty-more m r) (q .step) (q .memory) refl e
 
   module _ {t pid : ℕ} {a : Absorbed} {n₀ : ℕ} {list₀ : List ℕ} {n : ℕ} (reached : Reached t r pid a n₀ list₀ (newSections m) (drop at s) c n list) where
-    pub section-waits : (g : Taken) → isMore (l .stage) ≡ true → g ≡ finished r (l .length) c n → Shown a n₀ list₀ list m′ g
+    pub section-waits : (g : Left) → isMore (l .stage) ≡ true → g ≡ finished r (l .length) c n → Shown a n₀ list₀ list m′ g
     section-waits g e eg =
         reached-ends t r pid a n₀ list₀ (newSections m) (drop at s) c n list fresh m′ (l .length) g reached
         (step-waits t r pid m 0 (drop at s) l m′ (q .room) (q .fit .whole) (empty-more m r) (q .step) (q .memory) fresh news starts e) eg
 
-    module _ {b : Taken} {m″ list′ : List ℕ} (sh : Shown (acted t r pid (l .stage) (halfBuilt m′ r (l .length)) (held c m′)) n list list′ m″ b) (e : isMore (l .stage) ≡ false) where
+    module _ {b : Left} {m″ list′ : List ℕ} (sh : Shown (acted t r pid (l .stage) (halfBuilt m′ r (l .length)) (held c m′)) n list list′ m″ b) (e : isMore (l .stage) ≡ false) where
       section-acts : Reached t r pid a n₀ list₀ (empty (modeAfter (l .stage) fresh) m″) (drop (at + l .taken) s) (b .core) (b .n) list′
       section-acts =
           let after = acted t r pid (l .stage) (halfBuilt m′ r (l .length)) (held c m′) in
@@ -204,7 +203,7 @@ module _ {r : ℕ} {s : List ℕ} {at : ℕ} {c : Core} {m list : List ℕ} {l :
       pub section-follows : isBad (l .stage) ≡ false → Reached t r pid a n₀ list₀ (newSections m″) (drop (at + l .taken) s) (b .core) (b .n) list′
       section-follows good = rw (whole-mode (l .stage) e good) at section-acts
 
-      pub section-stops : (g : Taken) → isBad (l .stage) ≡ true → g ≡ finished r 0 (b .core) (b .n) → Shown a n₀ list₀ list′ m″ g
+      pub section-stops : (g : Left) → isBad (l .stage) ≡ true → g ≡ finished r 0 (b .core) (b .n) → Shown a n₀ list₀ list′ m″ g
       section-stops g bad eg =
           reached-ends t r pid a n₀ list₀ (empty (modeAfter (l .stage) fresh) m″) (drop (at + l .taken) s) (b .core) (b .n) list′ (modeAfter (l .stage) fresh) m″ 0 g section-acts
           (fed-stopped r (empty (modeAfter (l .stage) fresh) m″) (drop (at + l .taken) s) (bad-mode (l .stage) fresh bad)) eg

@@ -7,8 +7,10 @@
 --   isStopped md       == the rest of the payload is ignored
 --   isBad g            == section_length breaks the rule
 --   acted t r pid g s h == what a section of the bytes s does at its end
+--   Left               == what the code has left: the core, and the next place for an event
 --   finished r n c place == the core c with n half-built bytes in the room r, and the next place for an event
 --   Shown a n list₀ list m g == the code shows a: the events of a are laid in the list from the place n on, the core and the memory are those of a
+--   Went               == what the code has left where a half-built section went on: also the bytes in the room, and whether the rest is ignored
 --   Gone t r pid j c .. == the code shows the sections of a job j acting from the core c; the bytes in the room, and whether it is stopped, are the job's
 --   Fit c m list       == what a section may act on: section memory whole, at most sixteen listed, half-built sections of the list's places
 --                         within their rooms, places for 96 events
@@ -28,7 +30,6 @@ use Rattle.programmes.specs.Places.{halfAt}
 use Rattle.calls.specs.declared.Core.{Core}
 use Rattle.calls.specs.Cores.{Held, withHalf}
 use Rattle.calls.specs.Steps.{Absorbed, absorbedBy, absorbedAll, builtIn}
-use Rattle.payloads.specs.declared.Taken.{Taken}
 use Rattle.payloads.specs.declared.Resumed.{Resumed}
 use Rattle.payloads.specs.Taking.{held}
 
@@ -55,17 +56,33 @@ isBad Whole = false
 abbrev pub acted : ℕ → ℕ → ℕ → Stage → List ℕ → Held → Absorbed
 acted t r pid g s h = absorbedBy (stepOutcome r pid g s) t r pid s h
 
-abbrev pub finished : ℕ → ℕ → Core → ℕ → Taken
+pub record Left : Type 0 where
+  pub core : Core
+  pub n : ℕ
+
+abbrev pub left : Core → ℕ → Left
+left c n = record { core = c; n = n }
+
+abbrev pub finished : ℕ → ℕ → Core → ℕ → Left
 finished r n c place = record { core = withHalf (set (c .half) r n) c; n = place }
 
-pub record Shown (a : Absorbed) (n : ℕ) (list₀ list m : List ℕ) (g : Taken) : Type 0 where
+pub record Shown (a : Absorbed) (n : ℕ) (list₀ list m : List ℕ) (g : Left) : Type 0 where
   pub core : g .core ≡ a .held .core
   pub memory : m ≡ a .held .memory
   pub next : g .n ≡ n + length (a .events)
   pub laid : list ≡ eventsLaid list₀ n (a .events)
 
-pub record Gone (t r pid : ℕ) (j : Job) (c : Core) (n : ℕ) (list₀ list m : List ℕ) (g : Resumed) : Type 0 where
-  pub shown : Shown (absorbedAll t r pid (j .finished) (held c (j .memory))) n list₀ list m (record { core = g .core; n = g .n })
+pub record Went : Type 0 where
+  pub core : Core
+  pub n : ℕ
+  pub half : ℕ
+  pub stopped : Bool
+
+abbrev pub went : Core → Resumed → Went
+went c g = record { core = c; n = g .n; half = g .half; stopped = g .stopped }
+
+pub record Gone (t r pid : ℕ) (j : Job) (c : Core) (n : ℕ) (list₀ list m : List ℕ) (g : Went) : Type 0 where
+  pub shown : Shown (absorbedAll t r pid (j .finished) (held c (j .memory))) n list₀ list m (left (g .core) (g .n))
   pub half : g .half ≡ j .half
   pub stop : g .stopped ≡ isStopped (j .mode)
 

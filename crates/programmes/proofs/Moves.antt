@@ -10,9 +10,9 @@ use native.Mathlib.Omega.{arith}
 use lib.Dec.{ltb, eqb}
 use lib.ListN.{length, getD, set, take, drop-of-length-le, length-append}
 use lib.Seq.{sets, set-getD, getD-take, getD-append-add, length-take-le, sets-eq}
-use borrow.Author.Tests.{lt-ltb, le-ltb, eq-eqb, ne-eqb, ltb-true, eqb-true}
+use borrow.Author.Tests.{lt-ltb, le-ltb, eq-eqb, ne-eqb, ltb-true}
 use Rattle.lists.specs.Places.{part}
-use Rattle.lists.proofs.Tests.{and-left, and-right, Order, below, from, order}
+use Rattle.lists.proofs.Tests.{and-left, Order, below, from, order}
 use Rattle.lists.proofs.Places.{part-back}
 use Rattle.lists.proofs.Laying.{sets-append}
 use Rattle.watches.specs.declared.Entry.{Entry}

@@ -199,7 +199,7 @@ pub fn read_list(t: u64, old: [Entry; 16], old_count: usize, s: &[u8]) -> Listed
 }
 
 // The first place with a PID, or the length of the list where there is none.
-pub fn place_of(entries: [Entry; 16], count: usize, pid: u16) -> usize
+fn place_of(entries: [Entry; 16], count: usize, pid: u16) -> usize
     requires { ⌜ count ≤ 16 ⌝ }
     ensures { λ r. ⌜ r ≡ placeOf pid (take count entries) ⌝ }
 {

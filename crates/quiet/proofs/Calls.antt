@@ -7,14 +7,14 @@ use Prim.Native.Nat.{ℕ, _≤_}
 use native.Mathlib.Omega.{arith}
 use lib.Dec.{leb, eqb}
 use lib.ListN.{length, getD, set}
-use lib.Seq.{set-out}
+use lib.Seq.{set-out, set-getD}
 use borrow.Author.Tests.{leb-true, eqb-true, ne-eqb, le-ltb, not-true}
 use Rattle.lists.proofs.Tests.{and-left, and-right}
 use Rattle.events.specs.Faults.{continuityError}
-use Rattle.watches.specs.Tables.{fixedTables, latestTime}
-use Rattle.header.specs.Header.{packetSize, rightSync, errorBit, scrambledBits, pidOf}
+use Rattle.watches.specs.Tables.{fixedTables}
+use Rattle.header.specs.Header.{rightSync, errorBit, scrambledBits, pidOf, headerOf}
 use Rattle.continuity.specs.declared.Counted.{Counted}
-use Rattle.continuity.specs.Continuity.{knownByte}
+use Rattle.continuity.specs.Continuity.{knownByte, countedOf}
 use Rattle.sections.specs.Rooms.{roomCount, noRoom}
 use Rattle.programmes.specs.Listing.{lowestPid, mostListed}
 use Rattle.programmes.specs.Places.{isListed}
@@ -23,10 +23,11 @@ use Rattle.calls.specs.Cores.{Held, listed, fixedRoom, roomFor, withHalf, dropp
 use Rattle.calls.specs.Sync.{Synced, withSync, whileLost, inSync, syncedOf}
 use Rattle.calls.specs.Steps.{Step, also, packetEvents, counted, step1, step2, step4, step5}
 use Rattle.calls.specs.Sound.{timeSound, roomsSound, stateSound}
-use Rattle.calls.specs.Calls.{tableSize, leastRoom, heldOf, packetCall}
+use Rattle.calls.specs.Calls.{heldOf, packetCall}
 use Rattle.calls.proofs.Accepted.{PacketAccepted, accepted-packet, packet-call-accepted, rooms-at, sound-whole}
-use Rattle.quiet.specs.Quiet.{tablesQuiet, entriesQuiet, unmarked, syncQuiet, latestQuiet, stateQuiet, sizesQuiet, headQuiet, idlePacket, byteQuiet, countQuiet, packetQuiet, quietCall, countedTable}
-use Rattle.quiet.proofs.Turns.{passed, packet-lengths}
+use Rattle.checks.specs.Ladders.{Right}
+use Rattle.quiet.specs.Quiet.{tablesQuiet, entriesQuiet, unmarked, syncQuiet, latestQuiet, stateQuiet, headQuiet, idlePacket, byteQuiet, countQuiet, quietCall, quietByte}
+use Rattle.quiet.proofs.Turns.{passed}
 use Rattle.quiet.proofs.Parts.{tables-sound, tables-timely, entries-timely, entries-other, entries-sound}
 
 -- A QUIET STATE, part by part
@@ -113,39 +114,24 @@ dropped-nowhere : (s : State) (m : List ℕ) → length (s .core .half) ≤ room
 dropped-nowhere s m l = ap (λ (ns : List ℕ). record { core = withHalf ns (s .core); memory = m }) (set-out (s .core .half) noRoom 0 l)
 
 -- A QUIET PACKET, part by part
-pub record QuietPacket (t : ℕ) (x counters : List ℕ) (room : ℕ) : Type 0 where
-  pub packet : length x ≡ packetSize
-  pub table : length counters ≡ tableSize
-  pub records : leastRoom ≤ room
-  pub time : timeSound t ≡ true
+pub record QuietPacket (x : List ℕ) (b : ℕ) : Type 0 where
   pub sync : rightSync x ≡ true
   pub error : errorBit x ≡ false
   pub low : lowestPid ≤ pidOf x
-  pub byte : knownByte (getD counters (pidOf x) 0) ≡ true
-  pub silent : (idlePacket x || not (counted x counters .event)) ≡ true
+  pub byte : knownByte b ≡ true
+  pub silent : (idlePacket x || not (countedOf b (headerOf x) .event)) ≡ true
 
--- what refusals 1 to 4 ask
-pub sizes-rest : (t : ℕ) (x counters : List ℕ) (room : ℕ) → sizesQuiet t x counters room ≡ true → (leastRoom ≤ room) × (timeSound t ≡ true)
-sizes-rest t x counters room e =
-    let sizes = eqb (length x) packetSize && eqb (length counters) tableSize in
-    (leb-true leastRoom room (and-right sizes (leb leastRoom room) (and-left (sizes && leb leastRoom room) (timeSound t) e)), and-right (sizes && leb leastRoom room) (timeSound t) e)
-
-pub packet-parts : (t : ℕ) (x counters : List ℕ) (room : ℕ) → packetQuiet t x counters room ≡ true → QuietPacket t x counters room
-packet-parts t x counters room e =
-    let one = passed (sizesQuiet t x counters room) (countQuiet x counters) e in
-    let two = passed (headQuiet x) (byteQuiet x counters) (one .1) in
-    let three = passed (knownByte (getD counters (pidOf x) 0)) (idlePacket x || not (counted x counters .event)) (two .1) in
-    let a = rightSync x in
-    let b = not (errorBit x) in
-    let ab = and-left (a && b) (leb lowestPid (pidOf x)) (two .0) in
+pub packet-parts : (x : List ℕ) (b : ℕ) → countQuiet x b ≡ true → QuietPacket x b
+packet-parts x b e =
+    let two = passed (headQuiet x) (byteQuiet x b) e in
+    let three = passed (knownByte b) (idlePacket x || not (countedOf b (headerOf x) .event)) (two .1) in
+    let right = rightSync x in
+    let clear = not (errorBit x) in
+    let head = and-left (right && clear) (leb lowestPid (pidOf x)) (two .0) in
     record {
-      packet = packet-lengths t x counters room e .0;
-      table = packet-lengths t x counters room e .1;
-      records = sizes-rest t x counters room (one .0) .0;
-      time = sizes-rest t x counters room (one .0) .1;
-      sync = and-left a b ab;
-      error = not-true (errorBit x) (and-right a b ab);
-      low = leb-true lowestPid (pidOf x) (and-right (a && b) (leb lowestPid (pidOf x)) (two .0));
+      sync = and-left right clear head;
+      error = not-true (errorBit x) (and-right right clear head);
+      low = leb-true lowestPid (pidOf x) (and-right (right && clear) (leb lowestPid (pidOf x)) (two .0));
       byte = three .0;
       silent = three .1;
     }
@@ -166,15 +152,20 @@ module _ (s : State) (m : List ℕ) (t q : ℕ) (h : QuietState s m t q) (x coun
   calm-call ok after e none =
       packet-call-accepted s t x counters m room (accepted-packet s t x counters m room ok) ∙ rw (calm-step, e, none, quiet-timely s m t q h)
 
-module _ (s : State) (m : List ℕ) (t : ℕ) (x counters : List ℕ) (room : ℕ) (e : quietCall s m t x counters room ≡ true) where
-  pub call-lengths : (length x ≡ packetSize) × (length counters ≡ tableSize)
-  call-lengths = packet-lengths t x counters room (passed (packetQuiet t x counters room) (stateQuiet s m t (pidOf x)) e .0)
+-- the table after it
+abbrev pub countedTable : List ℕ → List ℕ → List ℕ
+countedTable x counters = set counters (pidOf x) (quietByte x (getD counters (pidOf x) 0))
 
-  quietPacket : QuietPacket t x counters room
-  quietPacket = packet-parts t x counters room (passed (packetQuiet t x counters room) (stateQuiet s m t (pidOf x)) e .0)
+module _ (s : State) (m : List ℕ) (t : ℕ) (x counters : List ℕ) (room : ℕ) (right : Right t x counters room)
+    (e : quietCall s m t x (getD counters (pidOf x) 0) ≡ true) where
+  abbrev seen : ℕ
+  seen = getD counters (pidOf x) 0
+
+  quietPacket : QuietPacket x seen
+  quietPacket = packet-parts x seen (passed (countQuiet x seen) (stateQuiet s m t (pidOf x)) e .0)
 
   quietState : QuietState s m t (pidOf x)
-  quietState = state-parts s m t (pidOf x) (passed (packetQuiet t x counters room) (stateQuiet s m t (pidOf x)) e .1)
+  quietState = state-parts s m t (pidOf x) (passed (countQuiet x seen) (stateQuiet s m t (pidOf x)) e .1)
 
   abbrev quietStep : Step
   quietStep = record { held = heldOf s m; counters = countedTable x counters; events = [] }
@@ -215,18 +206,18 @@ module _ (s : State) (m : List ℕ) (t : ℕ) (x counters : List ℕ) (room : �
   quiet-step-2 l = rw (quietPacket .error) (go (idlePacket x) (quietPacket .silent))
     where
       go : (b : Bool) → (b || not (counted x counters .event)) ≡ true
-          → cond b (after5 counters) (step4 t x counters (heldOf s m)) ≡ after5 (cond b counters (set counters (pidOf x) (counted x counters .byte)))
-      go true z = refl
+          → cond b (after5 counters) (step4 t x counters (heldOf s m)) ≡ after5 (set counters (pidOf x) (cond b seen (counted x counters .byte)))
+      go true z = ap after5 (sym (set-getD counters (pidOf x) 0))
       go false z = quiet-step-4 l (counted x counters) (not-true (counted x counters .event) z)
 
   -- THE CALL
   quiet-accepted : length (s .core .since) ≤ 5 → PacketAccepted s t x counters m room
   quiet-accepted l =
       record {
-        packet = quietPacket .packet;
-        table = quietPacket .table;
-        room = quietPacket .records;
-        time = leb-true t latestTime (quietPacket .time);
+        packet = right .packet;
+        table = right .table;
+        room = right .records;
+        time = right .time;
         sound = quiet-sound s m t (pidOf x) quietState l;
         byte = quietPacket .byte;
         order = quietState .order;

@@ -1,6 +1,4 @@
 pub mod Turns
 pub mod Parts
-pub mod Rooms
-pub mod Values
 pub mod Calls
 pub mod Lents

@@ -1,35 +1,28 @@
 -- The tests of a quiet call, one turn of each loop at a time. Assumes nothing.
-use mathlib.Core.Path.{_≡_, refl, sym, ap, ap₂, _∙_}
-use mathlib.Core.Bool.{Bool, true, false, cond, not, _&&_, true≢false}
-use mathlib.Core.List.{List}
-use Prim.Native.Nat.{ℕ, suc, _+_, _-_, _≤_, _<_}
-use native.Mathlib.Nat.{zero-add}
+use mathlib.Core.Path.{_≡_, refl, sym, ap, _∙_}
+use mathlib.Core.Bool.{Bool, true, false, cond, true≢false}
+use mathlib.Core.List.{List, [], _∷_}
+use Prim.Native.Nat.{ℕ, _+_, _≤_, _<_}
 use native.Mathlib.Omega.{arith}
-use lib.Dec.{eqb, leb}
 use lib.ListN.{length, getD, set, take, drop}
-use lib.Seq.{set-getD}
-use borrow.Author.Tests.{leb-false, eqb-true, ne-eqb}
-use Rattle.lists.proofs.Tests.{and-left, and-right}
 use Rattle.lists.proofs.Turns.{left-turn, left-none}
 use Rattle.watches.specs.declared.Entry.{Entry}
 use Rattle.watches.specs.Tables.{noEntry}
-use Rattle.header.specs.Header.{packetSize, pidOf}
-use Rattle.calls.specs.Sound.{timeSound}
-use Rattle.calls.specs.Steps.{counted}
-use Rattle.calls.specs.Calls.{tableSize, leastRoom}
-use Rattle.arrays.specs.Lent.{lostIn, runIn, entryIn, tabled}
-use Rattle.arrays.proofs.Back.{getD-tabled}
+use Rattle.arrays.specs.Lent.{tabled}
+use Rattle.arrays.proofs.Tabled.{part-all, part-tabled}
 use Rattle.quiet.specs.declared.Glance.{Glance}
-use Rattle.quiet.specs.Quiet.{entryQuiet, markOf, entriesQuiet, sizesQuiet, idlePacket, countQuiet, packetQuiet, Glanced}
+use Rattle.quiet.specs.Quiet.{entryQuiet, markOf, entriesQuiet, quietByte, glanceOf}
 
 pub cond-same : (b : Bool) → b ≡ cond b true false
 cond-same true = refl
 cond-same false = refl
 
--- ENTRIES
-pub entry-at : (times words : List ℕ) (k : ℕ) → k < 16 → getD (tabled (entryIn times words) 0 16) k noEntry ≡ entryIn times words k
-entry-at times words k h = getD-tabled (entryIn times words) 0 16 k noEntry h ∙ ap (entryIn times words) (zero-add k)
+-- the five gap starts, by name
+pub five-all : (l : List ℕ) → length l ≡ 5 → l ≡ getD l 0 0 ∷ getD l 1 0 ∷ getD l 2 0 ∷ getD l 3 0 ∷ getD l 4 0 ∷ []
+unfolding tabled
+five-all l h = sym (part-all l 5 h) ∙ part-tabled l 0 0 5 (omega arith)
 
+-- ENTRIES
 module _ (es : List Entry) (count i : ℕ) (fits : count ≤ length es) (p t q : ℕ) (marks : List Bool) where
   pub entries-here : (e : Entry) → i < count → getD es i noEntry ≡ e → entryQuiet p t q e ≡ false → entriesQuiet p t q marks (drop i (take count es)) ≡ false
   unfolding entriesQuiet
@@ -49,43 +42,25 @@ module _ (es : List Entry) (count i : ℕ) (fits : count ≤ length es) (p t q :
   unfolding entriesQuiet
   entries-end h = rw (left-none es count i h fits)
 
--- SYNC, in the words of the arrays
-pub sync-same : (lost run count : ℕ) → (eqb lost 0 && eqb run 0 && leb count 16) ≡ (not (lostIn lost) && eqb (runIn run) 0 && leb count 16)
-sync-same lost run count = rw (not-not (eqb lost 0), run-same (leb run 255) refl)
-  where
-    not-not : (b : Bool) → not (not b) ≡ b
-    not-not true = refl
-    not-not false = refl
-
-    run-same : (b : Bool) → leb run 255 ≡ b → eqb (cond b run 255) 0 ≡ eqb run 0
-    run-same true e = refl
-    run-same false e = sym (ne-eqb run 0 (λ z. omega (arith, leb-false run 255 e)))
-
 -- A LADDER of tests that is passed, and what its first rung says
 pub passed : (b x : Bool) → cond b x false ≡ true → (b ≡ true) × (x ≡ true)
 passed true x e = (refl, e)
 passed false x e = absurd (true≢false (sym e))
 
-module _ (t : ℕ) (x counters : List ℕ) (room : ℕ) where
-  pub sizes-lengths : sizesQuiet t x counters room ≡ true → (length x ≡ packetSize) × (length counters ≡ tableSize)
-  sizes-lengths e =
-      let a = eqb (length x) packetSize in
-      let b = eqb (length counters) tableSize in
-      let c = leb leastRoom room in
-      let ab = and-left (a && b) c (and-left (a && b && c) (timeSound t) e) in
-      (eqb-true (length x) packetSize (and-left a b ab), eqb-true (length counters) tableSize (and-right a b ab))
+-- WHAT IS TOLD OF A CALL, by the packet (q) and the state (s)
+module _ (x : List ℕ) (b : ℕ) {g : Glance} where
+  pub still-loud : (q s : Bool) → g ≡ glanceOf q x b → g .quiet ≡ false → g ≡ glanceOf (cond q s false) x b
+  still-loud true s e loud = absurd (true≢false (sym (ap (λ (k : Glance). k .quiet) e) ∙ loud))
+  still-loud false s e loud = e
 
-  pub packet-lengths : packetQuiet t x counters room ≡ true → (length x ≡ packetSize) × (length counters ≡ tableSize)
-  packet-lengths e = sizes-lengths (passed (sizesQuiet t x counters room) (countQuiet x counters) e .0)
+  pub now-loud : (q s : Bool) → g ≡ glanceOf false x b → s ≡ false → g ≡ glanceOf (cond q s false) x b
+  now-loud true s e loud = rw loud e
+  now-loud false s e loud = e
 
--- WHAT IS SEEN OF A PACKET: one that is not quiet; one of step 3; one that is counted
-pub glanced-loud : {x counters : List ℕ} {g : Glance} → g .quiet ≡ false → g .pid ≡ 0 → Glanced false x counters g
-glanced-loud e q = record { seen = e; pid = λ z. absurd (true≢false (sym z)); table = λ z. absurd (true≢false (sym z)); small = rw q (omega arith) }
+  pub still-quiet : (q s : Bool) → g ≡ glanceOf q x b → s ≡ true → g ≡ glanceOf (cond q s false) x b
+  still-quiet true s e quiet = rw quiet e
+  still-quiet false s e quiet = e
 
-module _ (x counters : List ℕ) (g : Glance) (quiet : Bool) (seen : g .quiet ≡ quiet) (pid : g .pid ≡ pidOf x) (small : g .pid < 8192) where
-  pub glanced-idle : idlePacket x ≡ true → g .byte ≡ getD counters (g .pid) 0 → Glanced quiet x counters g
-  glanced-idle e byte =
-      record { seen = seen; pid = λ z. pid; table = λ z. rw e (ap (set counters (g .pid)) byte ∙ set-getD counters (g .pid) 0); small = small }
-
-  pub glanced-counted : idlePacket x ≡ false → g .byte ≡ counted x counters .byte → Glanced quiet x counters g
-  glanced-counted e byte = record { seen = seen; pid = λ z. pid; table = λ z. rw e (ap₂ (set counters) pid byte); small = small }
+  pub told-quiet : (q : Bool) → g ≡ glanceOf q x b → g .quiet ≡ true → (q ≡ true) × (g .byte ≡ quietByte x b)
+  told-quiet true e quiet = (refl, ap (λ (k : Glance). k .byte) e)
+  told-quiet false e quiet = absurd (true≢false (sym quiet ∙ ap (λ (k : Glance). k .quiet) e))

@@ -1,8 +1,8 @@
 -- A quiet packet call: document 01, "Judging one packet" and "Watches and lateness". A call is quiet where all that it does is seen at a glance:
 -- nothing is late, and the packet is in sync, without a transport error, of a PID on which no sections are built, with nothing to be said of its
 -- counter. It gives no event; step 4 leaves its byte in the table, and its time becomes the latest. That this is what the call does is
--- `proofs/Calls.antt`; a call that is not quiet is made as any other. p is the latest accepted time, t the call's time, q the packet's PID, m is
--- section memory.
+-- `proofs/Calls.antt`; a call that is not quiet is made as any other. p is the latest accepted time, t the call's time, q the packet's PID, b its
+-- byte in the counter table, m is section memory.
 --
 --   gapQuiet limit p t s  == a gap start s not above 2^62, whose stamp does not fall due at t
 --   tablesQuiet p t rs ss == those of fixed tables
@@ -12,37 +12,27 @@
 --   syncQuiet c           == in sync, with no wrong byte before, at most sixteen programmes listed
 --   latestQuiet p t       == the latest time not above 2^62, the call's not below it
 --   stateQuiet s m t q    == the state is quiet for a packet of the PID q; half-built sections are as refusal 5 has them
---   sizesQuiet            == what refusals 1 to 4 ask
 --   headQuiet x           == a right sync byte, no error bit, a PID of 0x0020 or above
 --   idlePacket x          == step 3: a null packet, or control 00
---   byteQuiet             == a table byte that these calls leave, and no event of step 4
---   countQuiet            == a packet of which only the counter is looked at, with nothing to be said of it
---   packetQuiet           == the packet x is quiet
---   quietCall, quietIn    == both are, in a state by value or in two arrays
---   countedTable          == the counter table after step 3, or step 4
---   Glanced quiet x counters g == what is seen of the packet x, g: whether it is quiet, and then its PID and its byte in the counter table after step 3, or
---                            step 4
---   quietTimes, quietTable == the times and the counter table after the quiet part of a call, which leaves them where the call is not quiet
---   firstOf quiet         == what is told of it: a quiet call is accepted, with no event
-use mathlib.Core.Path.{_≡_}
-use Prim.Native.Nat.{ℕ, _+_, _%_, _<_}
+--   byteQuiet x b         == a table byte that these calls leave, and no event of step 4
+--   countQuiet x b        == a packet of which only the counter is looked at, with nothing to be said of it
+--   quietCall s m t x b   == a call that refusals 1 to 4 pass is quiet
+--   quietByte x b         == the byte after step 3, or step 4
+--   glanceOf quiet x b    == what is told of a call: whether it is quiet, and then the byte that it leaves
+use Prim.Native.Nat.{ℕ, _+_, _%_}
 use mathlib.Core.Bool.{Bool, true, false, cond, not, _&&_, _||_}
 use mathlib.Core.List.{List, [], _∷_}
 use lib.Dec.{leb, ltb, eqb}
-use lib.ListN.{length, getD, set, replicate}
+use lib.ListN.{getD, set, replicate}
 use Rattle.watches.specs.declared.Entry.{Entry}
 use Rattle.watches.specs.Tables.{Table, fixedTables, pmtTable}
-use Rattle.header.specs.Header.{packetSize, rightSync, errorBit, controlOf, pidOf}
-use Rattle.continuity.specs.Continuity.{knownByte}
+use Rattle.header.specs.Header.{rightSync, errorBit, controlOf, pidOf, headerOf}
+use Rattle.continuity.specs.Continuity.{knownByte, countedOf}
 use Rattle.programmes.specs.Listing.{lowestPid, mostListed, nullPid}
 use Rattle.calls.specs.declared.Core.{Core}
 use Rattle.calls.specs.declared.State.{State}
 use Rattle.calls.specs.Cores.{listed}
 use Rattle.calls.specs.Sound.{greatestPid, timeSound, roomsSound}
-use Rattle.calls.specs.Steps.{counted}
-use Rattle.calls.specs.Calls.{tableSize, leastRoom}
-use Rattle.arrays.specs.Lent.{timeCount, wordCount, stateIn}
-use Rattle.quiet.specs.declared.First.{First}
 use Rattle.quiet.specs.declared.Glance.{Glance}
 
 -- WATCHES
@@ -92,47 +82,25 @@ stateQuiet s m t q =
     false
 
 -- THE PACKET
-abbrev pub sizesQuiet : ℕ → List ℕ → List ℕ → ℕ → Bool
-sizesQuiet t x counters room = eqb (length x) packetSize && eqb (length counters) tableSize && leb leastRoom room && timeSound t
-
 abbrev pub headQuiet : List ℕ → Bool
 headQuiet x = rightSync x && not (errorBit x) && leb lowestPid (pidOf x)
 
 abbrev pub idlePacket : List ℕ → Bool
 idlePacket x = eqb (pidOf x) nullPid || eqb (controlOf x) 0
 
-abbrev pub byteQuiet : List ℕ → List ℕ → Bool
-byteQuiet x counters = cond (knownByte (getD counters (pidOf x) 0)) (idlePacket x || not (counted x counters .event)) false
+abbrev pub byteQuiet : List ℕ → ℕ → Bool
+byteQuiet x b = cond (knownByte b) (idlePacket x || not (countedOf b (headerOf x) .event)) false
 
-abbrev pub countQuiet : List ℕ → List ℕ → Bool
-countQuiet x counters = cond (headQuiet x) (byteQuiet x counters) false
-
-abbrev pub packetQuiet : ℕ → List ℕ → List ℕ → ℕ → Bool
-packetQuiet t x counters room = cond (sizesQuiet t x counters room) (countQuiet x counters) false
+abbrev pub countQuiet : List ℕ → ℕ → Bool
+countQuiet x b = cond (headQuiet x) (byteQuiet x b) false
 
 -- THE CALL
-abbrev pub quietCall : State → List ℕ → ℕ → List ℕ → List ℕ → ℕ → Bool
-quietCall s m t x counters room = cond (packetQuiet t x counters room) (stateQuiet s m t (pidOf x)) false
-
-abbrev pub quietIn : List ℕ → List ℕ → List ℕ → ℕ → List ℕ → List ℕ → ℕ → Bool
-quietIn times words m t x counters room =
-    cond (eqb (length times) timeCount && eqb (length words) wordCount) (quietCall (stateIn times words) m t x counters room) false
+abbrev pub quietCall : State → List ℕ → ℕ → List ℕ → ℕ → Bool
+quietCall s m t x b = cond (countQuiet x b) (stateQuiet s m t (pidOf x)) false
 
 -- WHAT IT LEAVES
-abbrev pub countedTable : List ℕ → List ℕ → List ℕ
-countedTable x counters = cond (idlePacket x) counters (set counters (pidOf x) (counted x counters .byte))
+abbrev pub quietByte : List ℕ → ℕ → ℕ
+quietByte x b = cond (idlePacket x) b (countedOf b (headerOf x) .byte)
 
-pub record Glanced (quiet : Bool) (x counters : List ℕ) (g : Glance) : Type 0 where
-  pub seen : g .quiet ≡ quiet
-  pub pid : quiet ≡ true → g .pid ≡ pidOf x
-  pub table : quiet ≡ true → set counters (g .pid) (g .byte) ≡ countedTable x counters
-  pub small : g .pid < 8192
-
-abbrev pub quietTimes : Bool → ℕ → List ℕ → List ℕ
-quietTimes quiet t times = cond quiet (set times 0 t) times
-
-abbrev pub quietTable : Bool → List ℕ → List ℕ → List ℕ
-quietTable quiet x counters = cond quiet (countedTable x counters) counters
-
-abbrev pub firstOf : Bool → First
-firstOf quiet = record { done = quiet; answer = record { refusal = 0; n = 0 } }
+abbrev pub glanceOf : Bool → List ℕ → ℕ → Glance
+glanceOf quiet x b = cond quiet (record { quiet = true; byte = quietByte x b }) (record { quiet = false; byte = 0 })

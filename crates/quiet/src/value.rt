@@ -1,13 +1,15 @@
-// The quiet part of a packet call on a state by value.
+// The same of a state by value.
+use crate::Glance;
 use calls::State;
+use header::Header;
 use watches::Entry;
 ghost use mathlib.Core.Path.{_≡_};
-ghost use mathlib.Core.Bool.{not, _&&_};
 ghost use Prim.Native.Nat.{_≤_};
-ghost use lib.Dec.{eqb, leb};
 ghost use lib.ListN.{length, take};
-ghost use Rattle.sections.specs.Rooms.{memorySize, roomCount};
-ghost use Rattle.quiet.specs.Quiet.{entriesQuiet, unmarked, stateQuiet, quietCall, quietTable};
+ghost use Rattle.header.specs.Header.{packetSize, headerOf};
+ghost use Rattle.sections.specs.Rooms.{memorySize};
+ghost use Rattle.arrays.specs.Lent.{Typed};
+ghost use Rattle.quiet.specs.Quiet.{entriesQuiet, unmarked, stateQuiet, quietCall, glanceOf};
 
 // Whether the listed entries are quiet, with no two numbers of the same remainder.
 fn entries_quiet(entries: [Entry; 16], count: usize, p: u64, t: u64, q: u16) -> bool
@@ -18,7 +20,7 @@ fn entries_quiet(entries: [Entry; 16], count: usize, p: u64, t: u64, q: u16) -> 
     let mut k: usize = 0;
     while k < count {
         let e = entries[k];
-        if !crate::entry_quiet(e.number, e.pid, e.since, p, t, q) {
+        if !crate::entry_quiet(e, p, t, q) {
             return false;
         }
         let mark = (e.number % 64) as usize;
@@ -31,27 +33,13 @@ fn entries_quiet(entries: [Entry; 16], count: usize, p: u64, t: u64, q: u16) -> 
     true
 }
 
-// Whether the state is in sync, with no wrong byte before, and its list within bounds.
-fn sync_quiet(lost: bool, run: u8, count: usize) -> bool
-    ensures { λ r. ⌜ r ≡ (not lost && eqb run 0 && leb count 16) ⌝ }
-{
-    !lost & (run == 0) & (count <= 16)
-}
-
-// The arrays of a state have their lengths by their types: a call of this shows them.
-fn sizes(since: [u64; 5], half: [u16; 21]) -> usize
-    ensures { λ r. ⌜ (r ≡ 26) × (length since ≡ 5) × (length half ≡ roomCount) ⌝ }
-{
-    26
-}
-
 // Whether the state is quiet for a packet of the PID q.
 fn state_quiet(state: State, memory: &[u8], t: u64, q: u16) -> bool
-    requires { ⌜ length (now memory) ≡ memorySize ⌝ }
+    requires { ⌜ Typed state × (length (now memory) ≡ memorySize) ⌝ }
     ensures { λ r. ⌜ r ≡ stateQuiet state (now (memory .entry)) t q ⌝ }
 {
     let count = state.core.count;
-    if !sync_quiet(state.core.lost, state.core.run, count) {
+    if !crate::sync_quiet(state.core.lost, state.core.run, count) {
         return false;
     }
     let p = state.latest;
@@ -60,7 +48,6 @@ fn state_quiet(state: State, memory: &[u8], t: u64, q: u16) -> bool
     }
     let half = state.core.half;
     let since = state.core.since;
-    let places = sizes(since, half);
     if !crate::rooms_quiet(&half, memory) {
         return false;
     }
@@ -71,32 +58,24 @@ fn state_quiet(state: State, memory: &[u8], t: u64, q: u16) -> bool
     entries_quiet(entries, count, p, t, q)
 }
 
-// The quiet part of a packet call: where the call is quiet its counter is counted here, and otherwise nothing is
-// done.
+// Whether nothing is to be said of a packet call that refusals 1 to 4 pass.
 pub fn quiet_value(
     state: State,
-    t: u64,
+    memory: &[u8],
+    time: u64,
     packet: &[u8],
-    counters: &mut [u8],
-    memory: &[u8; 24576],
-    room: usize,
-) -> bool
-    ensures { λ r. ⌜ (r ≡ quietCall state (now (memory .entry)) t (now (packet .entry)) (now (counters .entry)) room)
-        × (now (counters .exit) ≡ quietTable r (now (packet .entry)) (now (counters .entry)))
-        × (length (state .core .since) ≤ 5) × (length (state .core .half) ≤ roomCount) ⌝ }
+    h: Header,
+    byte: u8,
+) -> Glance
+    requires { ⌜ Typed state × (length (now memory) ≡ memorySize) × (length (now packet) ≡ packetSize) × (h ≡ headerOf (now packet)) ⌝ }
+    ensures { λ g. ⌜ g ≡ glanceOf (quietCall state (now (memory .entry)) time (now (packet .entry)) byte) (now (packet .entry)) byte ⌝ }
 {
-    let size = crate::memory_size(memory);
-    let since = state.core.since;
-    let half = state.core.half;
-    let places = sizes(since, half);
-    let g = crate::packet_quiet(t, packet, counters, room);
+    let g = crate::count_quiet(packet, h, byte);
     if !g.quiet {
-        return false;
+        return g;
     }
-    if !state_quiet(state, memory, t, g.pid) {
-        return false;
+    if !state_quiet(state, memory, time, h.pid) {
+        return crate::loud();
     }
-    let pid = g.pid as usize;
-    counters[pid] = g.byte;
-    true
+    g
 }

@@ -6,14 +6,12 @@
 --                        are left as it says; of arrays, numbers and list first as they were, then as they are. The numbers hold the call's events,
 --                        four numbers to an event, laid from the first place on, the others as they were
 --   ClockDone x r ..  == the same of a clock call, which writes neither table nor section memory
---   PacketLaid, ClockLaid == the same, with the events laid as numbers
 use Prim.Native.Nat.{ℕ}
 use mathlib.Core.Path.{_≡_}
 use mathlib.Core.List.{List}
 use Rattle.events.specs.declared.Event.{Event}
 use Rattle.events.specs.Events.{eventsLaid}
 use Rattle.calls.specs.Calls.{Result, openAnswer, openTable, answerOf, handedOver}
-use Rattle.engine.specs.Numbers.{Numbered}
 use Rattle.arrays.specs.declared.Reply.{Reply}
 use Rattle.arrays.specs.Replies.{replyOf, timesAfter, wordsAfter}
 
@@ -42,20 +40,3 @@ ClockDone x r times timesLeft words wordsLeft numbers numbersLeft old events =
     × (wordsLeft ≡ wordsAfter (answerOf x) words)
     × (numbersLeft ≡ eventsLaid numbers 0 (x .events))
     × (events ≡ handedOver (x .events) old)
-
--- THE SAME OVER NUMBERS
-abbrev pub PacketLaid : Result → Reply → (times timesLeft words wordsLeft counters memory before after : List ℕ) → Type 0
-PacketLaid x r times timesLeft words wordsLeft counters memory before after =
-    (r ≡ replyOf (answerOf x))
-    × (timesLeft ≡ timesAfter (answerOf x) times)
-    × (wordsLeft ≡ wordsAfter (answerOf x) words)
-    × (counters ≡ x .counters)
-    × (memory ≡ x .memory)
-    × Numbered before after (x .events)
-
-abbrev pub ClockLaid : Result → Reply → (times timesLeft words wordsLeft before after : List ℕ) → Type 0
-ClockLaid x r times timesLeft words wordsLeft before after =
-    (r ≡ replyOf (answerOf x))
-    × (timesLeft ≡ timesAfter (answerOf x) times)
-    × (wordsLeft ≡ wordsAfter (answerOf x) words)
-    × Numbered before after (x .events)

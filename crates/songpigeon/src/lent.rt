@@ -1,6 +1,5 @@
-// The calls on a state that is lent as two arrays: a quiet packet call is done in the arrays; any other state
-// is unpacked, judged by value, and packed again where the call is accepted. On a refusal nothing that was lent
-// is written, the arrays neither.
+// The calls as a host makes them: on a state that is lent as two arrays, their events handed over as records. On a refusal
+// nothing that was lent is written, the arrays neither.
 use arrays::Reply;
 use calls::Answer;
 use events::Event;
@@ -9,10 +8,10 @@ ghost use lib.ListN.{length};
 ghost use Rattle.arrays.specs.Lent.{stateIn};
 ghost use Rattle.arrays.specs.Replies.{timesAfter, wordsAfter};
 ghost use Rattle.calls.specs.Calls.{packetCall, clockCall};
-ghost use Rattle.songpigeon.specs.Lent.{OpenDone, PacketDone, ClockDone, PacketLaid, ClockLaid};
+ghost use Rattle.songpigeon.specs.Lent.{OpenDone, PacketDone, ClockDone};
 
-// The arrays after a call: its state, unless it was refused.
-fn settle(a: Answer, times: &mut [u64; 22], words: &mut [u16; 56])
+// The arrays after an opening: its state, unless it was refused.
+fn lay_answer(a: Answer, times: &mut [u64; 22], words: &mut [u16; 56])
     ensures { λ _. ⌜ (now (times .exit) ≡ timesAfter a (now (times .entry))) × (now (words .exit) ≡ wordsAfter a (now (words .entry))) ⌝ }
 {
     let refusal = a.refusal;
@@ -38,60 +37,7 @@ pub extern "C" fn songpigeon_open(
     ensures { λ r. ⌜ OpenDone time (now (counters .entry)) r (now (times .entry)) (now (times .exit)) (now (words .entry)) (now (words .exit)) (now (counters .exit)) ⌝ }
 {
     let a = engine::open_at(time, counters);
-    settle(a, times, words);
-    Reply {
-        refusal: a.refusal,
-        n: a.n,
-    }
-}
-
-// A packet call, its events laid as numbers. A quiet call is done on the arrays themselves (crate `quiet`); any other
-// is judged by value.
-pub fn lent_packet(
-    times: &mut [u64; 22],
-    words: &mut [u16; 56],
-    time: u64,
-    packet: &[u8],
-    counters: &mut [u8],
-    memory: &mut [u8; 24576],
-    room: usize,
-    numbers: &mut [u64; 384],
-) -> Reply
-    ensures { λ r. ⌜ PacketLaid (packetCall (stateIn (now (times .entry)) (now (words .entry))) time (now (packet .entry)) (now (counters .entry)) (now (memory .entry)) room)
-        r (now (times .entry)) (now (times .exit)) (now (words .entry)) (now (words .exit)) (now (counters .exit)) (now (memory .exit)) (now (numbers .entry)) (now (numbers .exit)) ⌝ }
-{
-    let first = quiet::quiet_packet(times, words, time, packet, counters, memory, room);
-    if first.done {
-        return first.answer;
-    }
-    let t = arrays::time_count(times);
-    let w = arrays::word_count(words);
-    let state = arrays::state_in(times, words);
-    let a = engine::whole_packet_at(state, time, packet, counters, memory, room, numbers);
-    settle(a, times, words);
-    Reply {
-        refusal: a.refusal,
-        n: a.n,
-    }
-}
-
-// A clock call, its events laid as numbers.
-pub fn lent_clock(
-    times: &mut [u64; 22],
-    words: &mut [u16; 56],
-    time: u64,
-    memory: &[u8; 24576],
-    room: usize,
-    numbers: &mut [u64; 384],
-) -> Reply
-    ensures { λ r. ⌜ ClockLaid (clockCall (stateIn (now (times .entry)) (now (words .entry))) time (now (memory .entry)) room)
-        r (now (times .entry)) (now (times .exit)) (now (words .entry)) (now (words .exit)) (now (numbers .entry)) (now (numbers .exit)) ⌝ }
-{
-    let t = arrays::time_count(times);
-    let w = arrays::word_count(words);
-    let state = arrays::state_in(times, words);
-    let a = engine::clock_at(state, time, memory, room, numbers);
-    settle(a, times, words);
+    lay_answer(a, times, words);
     Reply {
         refusal: a.refusal,
         n: a.n,
@@ -114,7 +60,7 @@ pub extern "C" fn songpigeon_packet(
         r (now (times .entry)) (now (times .exit)) (now (words .entry)) (now (words .exit)) (now (counters .exit)) (now (memory .exit)) (now (numbers .entry)) (now (numbers .exit)) (now (events .entry)) (now (events .exit)) ⌝ }
 {
     let room = events.len();
-    let out = lent_packet(times, words, time, packet, counters, memory, room, numbers);
+    let out = engine::packet_in(times, words, time, packet, counters, memory, room, numbers);
     let n = out.n;
     records::hand_over(numbers, n, events);
     out
@@ -134,7 +80,7 @@ pub extern "C" fn songpigeon_clock(
         r (now (times .entry)) (now (times .exit)) (now (words .entry)) (now (words .exit)) (now (numbers .entry)) (now (numbers .exit)) (now (events .entry)) (now (events .exit)) ⌝ }
 {
     let room = events.len();
-    let out = lent_clock(times, words, time, memory, room, numbers);
+    let out = engine::clock_in(times, words, time, memory, room, numbers);
     let n = out.n;
     records::hand_over(numbers, n, events);
     out

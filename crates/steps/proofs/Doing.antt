@@ -2,14 +2,14 @@
 use mathlib.Core.Path.{_≡_, refl, sym, ap, subst, _∙_}
 use mathlib.Core.Bool.{Bool, true, false, cond, _&&_, _||_}
 use mathlib.Core.List.{List, [], _∷_, _++_, append-nil}
-use Prim.Native.Nat.{ℕ, _+_, _≤_, _<_}
+use Prim.Native.Nat.{ℕ, _+_, _≤_}
 use native.Mathlib.Omega.{arith}
 use lib.Dec.{eqb, ltb}
 use lib.ListN.{length, set}
 use lib.Seq.{set-set}
 use Rattle.lists.specs.Laying.{laid}
 use Rattle.lists.proofs.Tests.{cond-either}
-use Rattle.lists.proofs.Laying.{laid-turn, laid-length}
+use Rattle.lists.proofs.Laying.{laid-turn}
 use Rattle.events.specs.declared.Event.{Event}
 use Rattle.events.specs.Events.{numbersOf, eventsLaid}
 use Rattle.events.specs.Faults.{transportError, continuityError}
@@ -24,8 +24,7 @@ use Rattle.calls.specs.Sync.{Synced, inSync, whileLost, syncedOf}
 use Rattle.calls.specs.Steps.{Step, Absorbed, packetEvents, also, sectionsTaken, scramblingEvents, counted, step1, step2, step4, step5}
 use Rattle.payloads.specs.Taking.{held}
 use Rattle.steps.proofs.Rooms.{room-kept}
-use Rattle.steps.specs.declared.Course.{Course}
-use Rattle.steps.specs.Judging.{Done, faultEvents, CaughtAs, coursed, Leads}
+use Rattle.steps.specs.Judging.{Done, faultEvents, CaughtAs, coursed}
 
 -- A STEP done is done by any name
 pub done-as : {x y : Step} {most : ℕ} {c : Core} {cs m before : List ℕ} {n : ℕ} {after : List ℕ} {r : ℕ} → x ≡ y
@@ -104,9 +103,9 @@ module _ (t : ℕ) (p table : List ℕ) (c : Core) (m : List ℕ) (taking : Bool
       rw (e, room-kept (set (c .half) room 0) c (pidOf p))
       (ap (λ (ns : List ℕ). record { held = held (withHalf ns c) m; counters = table; events = scramblingEvents t c (pidOf p) }) (set-set (c .half) room 0 0))
 
-  pub clear-ends : (b : Bool) (i : ℕ) → scrambledBits p ≡ false
-      → step5 t p taking table (kept b) ≡ coursed t p (record { n = i; room = room; keep = b; take = taking && ltb room roomCount }) table (held c m)
-  clear-ends b i e = rw (e, same b) (go taking (ltb room roomCount))
+  pub clear-ends : (b : Bool) → scrambledBits p ≡ false
+      → step5 t p taking table (kept b) ≡ coursed t p room b (taking && ltb room roomCount) table (held c m)
+  clear-ends b e = rw (e, same b) (go taking (ltb room roomCount))
     where
       same : (b : Bool) → roomFor (kept b .core) (pidOf p) ≡ room
       same true = refl
@@ -126,43 +125,16 @@ module _ (t : ℕ) (p table : List ℕ) (c : Core) (m : List ℕ) (taking : Bool
       go false y = refl
 
 -- WHAT IS LEFT TO BE DONE, by whether the payload is taken
-module _ (t : ℕ) (p : List ℕ) (v : Course) (cs : List ℕ) (h : Held) where
+module _ (t : ℕ) (p : List ℕ) (r : ℕ) (keep : Bool) (cs : List ℕ) (h : Held) where
   abbrev left : Held
-  left = cond (v .keep) h (droppedRoom (v .room) h)
+  left = cond keep h (droppedRoom r h)
 
-  pub left-out : v .take ≡ false → coursed t p v cs h ≡ quiet left cs
-  left-out e = rw e
+  pub left-out : (take : Bool) → take ≡ false → quiet left cs ≡ coursed t p r keep take cs h
+  left-out take e = rw e
 
-  pub taken-in : v .take ≡ true
-      → coursed t p v cs h ≡ (let a = sectionsTaken t (v .room) (pidOf p) (unitStart p) (payloadOf p) left in record { held = a .held; counters = cs; events = a .events })
-  taken-in e = rw e
-
--- the same after a step's events es
-module _ (x : Held → Step) (t : ℕ) (p : List ℕ) (c : Core) (table : List ℕ) (v : Course) (before : List ℕ) (n : ℕ) (mid : List ℕ) where
-  pub leads : (es : List Event) → v .n ≡ n + length es → mid ≡ eventsLaid before n es → v .n ≤ n + 2 → (v .take ≡ true → (v .room < roomCount) × (v .n ≤ n + 1))
-      → ((m : List ℕ) → also es (coursed t p v table (held c m)) ≡ x (held c m)) → Leads x t p c table v before n mid
-  leads es ei el few room same =
-      record { few = few; room = room; numbers = ap length el ∙ laid-length _ _ _ _ _; done = λ m d left after r done. go m d left after r (v .take) refl done }
-    where
-      go : (m : List ℕ) (d : Core) (left after : List ℕ) (r : ℕ) (b : Bool) → v .take ≡ b
-          → Done (coursed t p v table (held c m)) 62 d table left mid (v .n) after r → Done (x (held c m)) 63 d table left before n after r
-      go m d left after r true e done =
-          done-as (same m) (done-also (coursed t p v table (held c m)) es 1 62 d table left before n mid (v .n) after r ei el (room e .1) done)
-      go m d left after r false e done =
-          let none : coursed t p v table (held c m) .events ≡ [] = rw e in
-          done-as (same m) (done-also (coursed t p v table (held c m)) es 2 61 d table left before n mid (v .n) after r ei el few (record {
-            core = done .core;
-            counters = done .counters;
-            memory = done .memory;
-            next = done .next;
-            laid = done .laid;
-            few = omega (arith, done .next ∙ ap (λ (es : List Event). v .n + length es) none);
-          }))
-
-  -- a step that goes on with another
-  pub leads-on : (y : Held → Step) → ((m : List ℕ) → y (held c m) ≡ x (held c m)) → Leads y t p c table v before n mid → Leads x t p c table v before n mid
-  leads-on y same l =
-      record { few = l .few; room = l .room; numbers = l .numbers; done = λ m d left after r done. done-as (same m) (l .done m d left after r done) }
+  pub taken-in : (take : Bool) → take ≡ true
+      → (let a = sectionsTaken t r (pidOf p) (unitStart p) (payloadOf p) left in record { held = a .held; counters = cs; events = a .events }) ≡ coursed t p r keep take cs h
+  taken-in take e = rw e
 
 -- the core after step 4
 pub kept-held : (b : Bool) (c : Core) (m : List ℕ) (r : ℕ)
@@ -191,10 +163,9 @@ module _ (t : ℕ) (p cs : List ℕ) (c : Core) (j : Counted) (verdict : j ≡ c
       ∙ ap (also (continuityEvents t (pidOf p) (j .event))) (sym (scrambled-ends t p counterTable c m (j .take) (j .keep) e))
       ∙ ap from verdict
 
-  pub counter-clear : (i : ℕ) → scrambledBits p ≡ false
-      → also (continuityEvents t (pidOf p) (j .event))
-      (coursed t p (record { n = i; room = counterRoom; keep = j .keep; take = j .take && ltb counterRoom roomCount }) counterTable (held c m)) ≡ step4 t p cs (held c m)
-  counter-clear i e = ap (also (continuityEvents t (pidOf p) (j .event))) (sym (clear-ends t p counterTable c m (j .take) (j .keep) i e)) ∙ ap from verdict
+  pub counter-clear : scrambledBits p ≡ false
+      → also (continuityEvents t (pidOf p) (j .event)) (coursed t p counterRoom (j .keep) (j .take && ltb counterRoom roomCount) counterTable (held c m)) ≡ step4 t p cs (held c m)
+  counter-clear e = ap (also (continuityEvents t (pidOf p) (j .event))) (sym (clear-ends t p counterTable c m (j .take) (j .keep) e)) ∙ ap from verdict
 
 -- STEP 1
 pub lost-is : (right : Bool) (c : Core) → c .lost ≡ true → syncedOf right c ≡ whileLost right c

@@ -1,19 +1,30 @@
 -- Rooms under steps 1 to 5: a dropped half-built section leaves every room sound, and PIDs in their rooms. Assumes nothing.
-use mathlib.Core.Path.{_≡_, refl, ap, _∙_}
+use mathlib.Core.Path.{_≡_, refl, sym, ap, ap₂, _∙_}
 use mathlib.Core.Logic.{_⊎_, inl, inr, ⊎-elim}
 use mathlib.Core.Bool.{Bool, true, false, cond}
 use mathlib.Core.List.{List, [], _∷_}
-use Prim.Native.Nat.{ℕ, zero, suc, _+_}
-use lib.Dec.{eqb}
+use Prim.Native.Nat.{ℕ, zero, suc, _+_, _≤_}
+use native.Mathlib.Omega.{arith}
+use lib.Dec.{eqb, ltb}
 use lib.ListN.{getD, set, replicate}
+use lib.Seq.{length-take-le}
 use Rattle.lists.proofs.Tests.{and-left, and-right, and-intro, cond-either}
 use Rattle.sections.specs.Rooms.{roomCount, greatestLength, halfBuilt}
 use Rattle.sections.specs.Section.{stageOf, isMore}
+use Rattle.programmes.specs.Places.{placeOf, isListed}
 use Rattle.calls.specs.declared.Core.{Core}
 use Rattle.calls.specs.Cores.{roomFor, withHalf}
 use Rattle.calls.proofs.Accepted.{room-empty}
 use Rattle.calls.specs.Sound.{roomSound, roomsFrom, roomsSound}
 use Rattle.calls.specs.Sync.{Synced, withSync, lostNow, inSync, whileLost, syncedOf}
+use Rattle.arrays.specs.Lent.{countIn, entriesIn, listedIn}
+use Rattle.arrays.proofs.Stores.{entries-length}
+
+-- whether a PID is listed, by its place
+pub listed-test : (times words : List ℕ) (q place count : ℕ) → place ≡ placeOf q (listedIn times words) → count ≡ countIn words → countIn words ≤ 16
+    → ltb place count ≡ isListed q (listedIn times words)
+listed-test times words q place count ep ec few =
+    ap₂ ltb ep (ec ∙ sym (length-take-le (countIn words) (entriesIn times words) (omega (arith, entries-length times words))))
 
 -- where sections of a PID are built is a matter of the list alone
 pub room-kept : (ns : List ℕ) (c : Core) (q : ℕ) → roomFor (withHalf ns c) q ≡ roomFor c q
@@ -82,9 +93,6 @@ keptBy b c r = cond b c (withHalf (set (c .half) r 0) c)
 module _ (b : Bool) (c : Core) (r : ℕ) where
   pub kept-count : keptBy b c r .count ≡ c .count
   kept-count = cond-either (λ d. d .count ≡ c .count) b c (withHalf (set (c .half) r 0) c) refl refl
-
-  pub kept-room : (q : ℕ) → roomFor (keptBy b c r) q ≡ roomFor c q
-  kept-room q = cond-either (λ d. roomFor d q ≡ roomFor c q) b c (withHalf (set (c .half) r 0) c) refl (room-kept (set (c .half) r 0) c q)
 
   pub kept-sound : (m : List ℕ) → roomsSound (c .half) m ≡ true → roomsSound (keptBy b c r .half) m ≡ true
   kept-sound m e =

@@ -7,20 +7,17 @@
 --                                  events laid from the place n on, at most `most`; r is the next place
 --   faultEvents t pid fs        == an event without a cause for each fault
 --   CaughtAs y t pid c on before n after r == what step 1 says, y, done in the same way: at most two events
---   resynced y c                == the core with sync as step 1 leaves it, all half-built sections dropped where it says so
---   coursed t p v cs h          == what the steps leave to be done, v, done: what is half-built in the room dropped, unless it is kept, and the payload taken,
---                                  if it is
---   Leads x t p c table v before n mid == v is what the step x leaves to be done: whoever does it has done x
+--   coursed t p r keep take cs h == behind step 4: what is half-built in the room r dropped, unless it is kept, and the payload taken, if it is
 use mathlib.Core.Path.{_≡_}
 use mathlib.Core.Bool.{Bool, true, cond}
 use mathlib.Core.List.{List, [], map}
-use Prim.Native.Nat.{ℕ, _+_, _≤_, _<_}
-use lib.ListN.{length, replicate}
+use Prim.Native.Nat.{ℕ, _+_, _≤_}
+use lib.ListN.{length}
 use Rattle.events.specs.declared.Event.{Event}
 use Rattle.events.specs.Faults.{noCause}
 use Rattle.events.specs.Events.{eventAt, eventsLaid}
 use Rattle.header.specs.Header.{packetSize, pidOf, unitStart, payloadOf}
-use Rattle.sections.specs.Rooms.{memorySize, roomCount}
+use Rattle.sections.specs.Rooms.{memorySize}
 use Rattle.programmes.specs.Listing.{mostListed}
 use Rattle.calls.specs.declared.Core.{Core}
 use Rattle.calls.specs.Cores.{Held, droppedRoom}
@@ -28,9 +25,6 @@ use Rattle.calls.specs.Sync.{Synced}
 use Rattle.calls.specs.Steps.{Step, sectionsTaken}
 use Rattle.calls.specs.Sound.{roomsSound}
 use Rattle.calls.specs.Calls.{tableSize, leastRoom}
-use Rattle.payloads.specs.Taking.{held}
-use Rattle.steps.specs.declared.Caught.{Caught}
-use Rattle.steps.specs.declared.Course.{Course}
 
 pub record Ready (c : Core) (m p list : List ℕ) (n most : ℕ) : Type 0 where
   pub packet : length p ≡ packetSize
@@ -63,21 +57,8 @@ pub record CaughtAs (y : Synced) (t pid : ℕ) (c : Core) (on : Bool) (before : 
   pub laid : after ≡ eventsLaid before n (faultEvents t pid (y .faults))
   pub few : r ≤ n + 2
 
-abbrev pub resynced : Caught → Core → Core
-resynced y c =
-    record { lost = y .lost; run = y .run; since = c .since; count = c .count; entries = c .entries; half = cond (y .dropped) (replicate roomCount 0) (c .half) }
-
-abbrev pub coursed : ℕ → List ℕ → Course → List ℕ → Held → Step
-coursed t p v cs h =
-    let g = cond (v .keep) h (droppedRoom (v .room) h) in
-    let a = sectionsTaken t (v .room) (pidOf p) (unitStart p) (payloadOf p) g in
-    cond (v .take) (record { held = a .held; counters = cs; events = a .events }) (record { held = g; counters = cs; events = [] })
-
-pub record Leads (x : Held → Step) (t : ℕ) (p : List ℕ) (c : Core) (table : List ℕ) (v : Course) (before : List ℕ) (n : ℕ) (mid : List ℕ) : Type 0 where
-  pub few : v .n ≤ n + 2
-  pub room : v .take ≡ true → (v .room < roomCount) × (v .n ≤ n + 1)
-  pub numbers : length mid ≡ length before
-  pub done :
-      (m : List ℕ) (d : Core) (left after : List ℕ) (r : ℕ)
-      → Done (coursed t p v table (held c m)) 62 d table left mid (v .n) after r
-      → Done (x (held c m)) 63 d table left before n after r
+abbrev pub coursed : ℕ → List ℕ → ℕ → Bool → Bool → List ℕ → Held → Step
+coursed t p r keep take cs h =
+    let g = cond keep h (droppedRoom r h) in
+    let a = sectionsTaken t r (pidOf p) (unitStart p) (payloadOf p) g in
+    cond take (record { held = a .held; counters = cs; events = a .events }) (record { held = g; counters = cs; events = [] })

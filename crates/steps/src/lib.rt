@@ -1,50 +1,30 @@
-// One packet judged: steps 1 to 5 of document 01, "Judging one packet". Events have the call's time as
-// stamp and the packet's 13 PID bits as id. Step 1 is in `sync`.
+// One packet judged: steps 1 to 5 of document 01, "Judging one packet", in the lent arrays. Events have the call's time
+// as stamp and the packet's 13 PID bits as id. Step 1 is in `sync`.
 mod sync;
 
-use calls::Core;
 use header::Header;
-use watches::Entry;
 ghost use mathlib.Core.Path.{_≡_};
 ghost use mathlib.Core.Bool.{true, cond};
 ghost use mathlib.Core.List.{List, [], _∷_};
 ghost use Prim.Native.Nat.{ℕ, _+_, _<_, _≤_};
-ghost use lib.ListN.{length, set, take};
+ghost use lib.ListN.{length, set};
 ghost use Rattle.events.specs.Events.{eventsLaid};
 ghost use Rattle.events.specs.Faults.{continuityError};
 ghost use Rattle.watches.specs.Tables.{fixedTables};
-ghost use Rattle.header.specs.Header.{headerOf};
+ghost use Rattle.header.specs.Header.{headerOf, Seen};
 ghost use Rattle.sections.specs.Rooms.{roomCount};
 ghost use Rattle.programmes.specs.Listing.{mostListed};
 ghost use Rattle.programmes.specs.Places.{isListed};
 ghost use Rattle.calls.specs.Cores.{fixedRoom, listRoom, roomFor, withHalf};
 ghost use Rattle.calls.specs.Steps.{scramblingEvents, step1, step2, step4};
+ghost use Rattle.arrays.specs.Lent.{wordCount, countIn, listedIn, halvesIn, coreIn, Sized, LatestKept, SyncKept, Moved, SyncTold};
 ghost use Rattle.payloads.specs.Taking.{held};
-ghost use Rattle.steps.specs.Judging.{Ready, Judgeable, Done, faultEvents, coursed, Leads};
+ghost use Rattle.steps.specs.Judging.{Ready, Judgeable, Done, faultEvents, coursed};
 
-// The core after a packet, and the next place for an event.
-pub struct Stepped {
-    pub core: Core,
-    pub n: usize,
-}
-
-// What step 1 leaves of sync, whether all half-built sections are dropped, the next place for an event, and whether
-// the packet is judged further.
+// What step 1 says: the next place for an event, and whether the packet is judged further.
 struct Caught {
-    lost: bool,
-    run: u8,
-    dropped: bool,
     n: usize,
     further: bool,
-}
-
-// What steps 2 to 5 leave to be done: the next place for an event, the room where sections of the PID are built, or 21,
-// whether what is half-built there is kept, and whether the payload is taken.
-struct Course {
-    n: usize,
-    room: usize,
-    keep: bool,
-    take: bool,
 }
 
 const SYNC_BYTE: u8 = 0x47;
@@ -92,75 +72,73 @@ fn fixed_room(pid: u16) -> usize
 }
 
 // The room of a PID by its first place in the list, or 21: no section of it is built.
-fn list_room(entries: [Entry; 16], count: usize, pid: u16) -> usize
-    requires { ⌜ count ≤ mostListed ⌝ }
-    ensures { λ r. ⌜ r ≡ listRoom pid (take count entries) ⌝ }
+fn list_room(words: &[u16], pid: u16) -> usize
+    requires { ⌜ (length (now words) ≡ wordCount) × (countIn (now words) ≤ mostListed) ⌝ }
+    ensures { λ r. ⌜ ((times : List ℕ) → r ≡ listRoom pid (listedIn times (now (words .entry)))) ⌝ }
 {
-    let place = programmes::place_of(entries, count, pid);
-    if place < count {
+    let place = arrays::place_in(words, pid);
+    if place < arrays::count_in(words) {
         return FIXED_ROOMS + place;
     }
     ROOM_COUNT
 }
 
 // Whether a PID is that of a listed programme.
-fn is_listed(entries: [Entry; 16], count: usize, pid: u16) -> bool
-    requires { ⌜ count ≤ mostListed ⌝ }
-    ensures { λ r. ⌜ r ≡ isListed pid (take count entries) ⌝ }
+fn is_listed(words: &[u16], pid: u16) -> bool
+    requires { ⌜ (length (now words) ≡ wordCount) × (countIn (now words) ≤ mostListed) ⌝ }
+    ensures { λ r. ⌜ ((times : List ℕ) → r ≡ isListed pid (listedIn times (now (words .entry)))) ⌝ }
 {
-    programmes::place_of(entries, count, pid) < count
+    let place = arrays::place_in(words, pid);
+    place < arrays::count_in(words)
 }
 
 // The room where sections of a PID are built, or 21.
-fn room_for(core: Core, pid: u16) -> usize
-    requires { ⌜ core .count ≤ mostListed ⌝ }
-    ensures { λ r. ⌜ r ≡ roomFor core pid ⌝ }
+fn room_for(words: &[u16], pid: u16) -> usize
+    requires { ⌜ (length (now words) ≡ wordCount) × (countIn (now words) ≤ mostListed) ⌝ }
+    ensures { λ r. ⌜ ((times : List ℕ) → r ≡ roomFor (coreIn times (now (words .entry))) pid) ⌝ }
 {
     let fixed = fixed_room(pid);
     if fixed < FIXED_ROOMS {
         return fixed;
     }
-    let entries = core.entries;
-    list_room(entries, core.count, pid)
+    list_room(words, pid)
 }
 
-// The half-built lengths with that of a room, if it is one, set to 0.
-fn empty_room(half: [u16; 21], room: usize) -> [u16; 21]
-    ensures { λ r. ⌜ r ≡ set half room 0 ⌝ }
+// The half-built section of a room, if it is one, dropped.
+fn drop_room(words: &mut [u16], room: usize)
+    requires { ⌜ length (now words) ≡ wordCount ⌝ }
+    ensures { λ _. ⌜ ((times : List ℕ) → coreIn times (now (words .exit)) ≡ withHalf (set (halvesIn (now (words .entry))) room 0) (coreIn times (now (words .entry))))
+        × SyncKept (now (words .entry)) (now (words .exit)) ⌝ }
 {
     if ROOM_COUNT <= room {
-        return half;
+        return;
     }
-    let mut emptied = half;
-    emptied[room] = 0;
-    emptied
+    arrays::set_half(words, room, 0);
 }
 
 // The half-built section of a room dropped, unless it is kept.
-fn keep_room(core: Core, room: usize, keep: bool) -> Core
-    ensures { λ r. ⌜ r ≡ cond keep core (withHalf (set (core .half) room 0) core) ⌝ }
+fn keep_room(words: &mut [u16], room: usize, keep: bool)
+    requires { ⌜ length (now words) ≡ wordCount ⌝ }
+    ensures { λ _. ⌜ ((times : List ℕ) → coreIn times (now (words .exit)) ≡ cond keep (coreIn times (now (words .entry))) (withHalf (set (halvesIn (now (words .entry))) room 0) (coreIn times (now (words .entry)))))
+        × SyncKept (now (words .entry)) (now (words .exit)) ⌝ }
 {
     if keep {
-        return core;
+        return;
     }
-    let mut dropped = core;
-    let half = core.half;
-    let emptied = empty_room(half, room);
-    dropped.half = emptied;
-    dropped
+    drop_room(words, room);
 }
 
 // Step 5 on a packet that is scrambled: its event, if it has one.
-fn judge_scrambled(core: Core, time: u64, pid: u16, numbers: &mut [u64], n: usize) -> usize
-    requires { ⌜ (core .count ≤ mostListed) × (n < 96) × (384 ≤ length (now numbers)) ⌝ }
-    ensures { λ r. ⌜ (r ≡ n + length (scramblingEvents time core pid))
-        × (now (numbers .exit) ≡ eventsLaid (now (numbers .entry)) n (scramblingEvents time core pid)) × (r ≤ n + 1) ⌝ }
+fn judge_scrambled(words: &[u16], time: u64, pid: u16, numbers: &mut [u64], n: usize) -> usize
+    requires { ⌜ (length (now words) ≡ wordCount) × (countIn (now words) ≤ mostListed) × (n < 96) × (384 ≤ length (now numbers)) ⌝ }
+    ensures { λ r. ⌜ ((times : List ℕ) → (r ≡ n + length (scramblingEvents time (coreIn times (now (words .entry))) pid))
+        × (now (numbers .exit) ≡ eventsLaid (now (numbers .entry)) n (scramblingEvents time (coreIn times (now (words .entry))) pid)))
+        × (r ≤ n + 1) ⌝ }
 {
     if pid == PAT_PID {
         return events::put(numbers, n, time, PAT_ERROR, SCRAMBLED, pid);
     }
-    let entries = core.entries;
-    if is_listed(entries, core.count, pid) {
+    if is_listed(words, pid) {
         return events::put(numbers, n, time, PMT_ERROR, SCRAMBLED, pid);
     }
     n
@@ -179,138 +157,165 @@ fn judge_continuity(event: bool, time: u64, pid: u16, numbers: &mut [u64], n: us
     n
 }
 
-// Steps 4 and 5.
-fn judge_counter(
-    core: Core,
-    time: u64,
-    packet: &[u8],
-    h: Header,
-    counters: &mut [u8],
-    numbers: &mut [u64],
-    n: usize,
-) -> Course
-    requires { ⌜ (core .count ≤ mostListed) × (n + 63 ≤ 96) × (384 ≤ length (now numbers)) ⌝ }
-    requires { ⌜ (h ≡ headerOf (now packet)) × (h .pid < length (now counters)) ⌝ }
-    ensures { λ v. ⌜ Leads (step4 time (now (packet .entry)) (now (counters .entry))) time (now (packet .entry)) core (now (counters .exit)) v (now (numbers .entry)) n (now (numbers .exit)) ⌝ }
-{
-    let pid = h.pid as usize;
-    let j = continuity::judge(counters[pid], h);
-    counters[pid] = j.byte;
-    let room = room_for(core, h.pid);
-    let next = judge_continuity(j.event, time, h.pid, numbers, n);
-    if h.scrambled {
-        return Course {
-            n: judge_scrambled(core, time, h.pid, numbers, next),
-            room: room,
-            keep: false,
-            take: false,
-        };
-    }
-    Course {
-        n: next,
-        room: room,
-        keep: j.keep,
-        take: j.take & (room < ROOM_COUNT),
-    }
-}
-
-// Steps 2 and 3, and what follows them.
-fn judge_header(
-    core: Core,
-    time: u64,
-    packet: &[u8],
-    h: Header,
-    counters: &mut [u8],
-    numbers: &mut [u64],
-    n: usize,
-) -> Course
-    requires { ⌜ (core .count ≤ mostListed) × (n + 63 ≤ 96) × (384 ≤ length (now numbers)) ⌝ }
-    requires { ⌜ (h ≡ headerOf (now packet)) × (h .pid < length (now counters)) ⌝ }
-    ensures { λ v. ⌜ Leads (step2 time (now (packet .entry)) (now (counters .entry))) time (now (packet .entry)) core (now (counters .exit)) v (now (numbers .entry)) n (now (numbers .exit)) ⌝ }
-{
-    if h.error {
-        return Course {
-            n: events::put(numbers, n, time, TRANSPORT_ERROR, NO_CAUSE, h.pid),
-            room: ROOM_COUNT,
-            keep: true,
-            take: false,
-        };
-    }
-    if (h.pid == NULL_PID) | (h.control == 0) {
-        return Course {
-            n: n,
-            room: ROOM_COUNT,
-            keep: true,
-            take: false,
-        };
-    }
-    judge_counter(core, time, packet, h, counters, numbers, n)
-}
-
-// What the steps leave to be done: the part of the packet from its payload's place on is handed to section building.
-// The counter table stays as step 4 left it, whatever it is.
+// What is left to be done behind step 4: what is half-built in the room of the PID is kept or dropped, and the part of the
+// packet from its payload's place on is handed to section building, if it is. The counter table stays as step 4 left it,
+// whatever it is.
 fn take_course(
-    core: Core,
+    times: &mut [u64],
+    words: &mut [u16],
     time: u64,
     packet: &[u8],
     h: Header,
-    v: Course,
+    room: usize,
+    keep: bool,
+    take: bool,
     memory: &mut [u8; 24576],
     numbers: &mut [u64],
-) -> Stepped
-    requires { ⌜ Ready core (now memory) (now packet) (now numbers) (v .n) 0 ⌝ }
-    requires { ⌜ (h ≡ headerOf (now packet)) × (v .take ≡ true → (v .room < roomCount) × (v .n + 62 ≤ 96)) ⌝ }
-    ensures { λ r. ⌜ ((cs : List ℕ) → Done (coursed time (now (packet .entry)) v cs (held core (now (memory .entry)))) 62
-        (r .core) cs (now (memory .exit)) (now (numbers .entry)) (v .n) (now (numbers .exit)) (r .n)) ⌝ }
+    n: usize,
+) -> usize
+    requires { ⌜ Sized (now times) (now words) × Ready (coreIn (now times) (now words)) (now memory) (now packet) (now numbers) n 62 ⌝ }
+    requires { ⌜ (h ≡ headerOf (now packet)) × (take ≡ true → room < roomCount) ⌝ }
+    ensures { λ r. ⌜ ((cs : List ℕ) → Done (coursed time (now (packet .entry)) room keep take cs (held (coreIn (now (times .entry)) (now (words .entry))) (now (memory .entry)))) 62
+        (coreIn (now (times .exit)) (now (words .exit))) cs (now (memory .exit)) (now (numbers .entry)) n (now (numbers .exit)) r) ⌝ }
+    ensures { λ r. ⌜ Moved (now (times .entry)) (now (words .entry)) (now (times .exit)) (now (words .exit)) ⌝ }
 {
-    let kept = keep_room(core, v.room, v.keep);
-    if !v.take {
-        return Stepped { core: kept, n: v.n };
+    keep_room(words, room, keep);
+    if !take {
+        return n;
     }
     let at = h.payload;
-    let taken = payloads::take_payload(
-        kept,
+    payloads::take_payload(
+        times,
+        words,
         memory,
-        v.room,
+        room,
         h.pid,
         h.start,
         &packet[at..],
         time,
         numbers,
-        v.n,
-    );
-    let after = taken.core;
-    Stepped {
-        core: after,
-        n: taken.n,
-    }
+        n,
+    )
 }
 
-// A packet at a time: steps 1 to 5. Its events are laid from the place n on. Only the payload needs the whole core: what
-// comes before it says in a few words what is left to be done.
-pub fn judge_packet(
-    core: Core,
+// Steps 4 and 5, by the table byte of the packet's PID.
+fn judge_counter(
+    times: &mut [u64],
+    words: &mut [u16],
     time: u64,
     packet: &[u8],
+    h: Header,
+    byte: u8,
     counters: &mut [u8],
     memory: &mut [u8; 24576],
     numbers: &mut [u64],
     n: usize,
-) -> Stepped
-    requires { ⌜ Judgeable core (now packet) (now counters) (now memory) (now numbers) n ⌝ }
-    ensures { λ r. ⌜ Done (step1 time (now (packet .entry)) (now (counters .entry)) (held core (now (memory .entry)))) 65
-        (r .core) (now (counters .exit)) (now (memory .exit)) (now (numbers .entry)) n (now (numbers .exit)) (r .n) ⌝ }
+) -> usize
+    requires { ⌜ Sized (now times) (now words) × Ready (coreIn (now times) (now words)) (now memory) (now packet) (now numbers) n 63 ⌝ }
+    requires { ⌜ Seen (now packet) (now counters) h byte × (h .pid < length (now counters)) ⌝ }
+    ensures { λ r. ⌜ Done (step4 time (now (packet .entry)) (now (counters .entry)) (held (coreIn (now (times .entry)) (now (words .entry))) (now (memory .entry)))) 63
+        (coreIn (now (times .exit)) (now (words .exit))) (now (counters .exit)) (now (memory .exit)) (now (numbers .entry)) n (now (numbers .exit)) r ⌝ }
+    ensures { λ r. ⌜ Moved (now (times .entry)) (now (words .entry)) (now (times .exit)) (now (words .exit)) ⌝ }
 {
-    let h = header::read(packet);
+    let pid = h.pid as usize;
+    let j = continuity::judge(byte, h);
+    counters[pid] = j.byte;
+    let room = room_for(words, h.pid);
+    let next = judge_continuity(j.event, time, h.pid, numbers, n);
+    if h.scrambled {
+        let last = judge_scrambled(words, time, h.pid, numbers, next);
+        drop_room(words, room);
+        return last;
+    }
+    let take = j.take & (room < ROOM_COUNT);
+    take_course(
+        times,
+        words,
+        time,
+        packet,
+        h,
+        room,
+        j.keep,
+        take,
+        memory,
+        numbers,
+        next,
+    )
+}
+
+// Steps 2 and 3, and what follows them.
+fn judge_header(
+    times: &mut [u64],
+    words: &mut [u16],
+    time: u64,
+    packet: &[u8],
+    h: Header,
+    byte: u8,
+    counters: &mut [u8],
+    memory: &mut [u8; 24576],
+    numbers: &mut [u64],
+    n: usize,
+) -> usize
+    requires { ⌜ Sized (now times) (now words) × Ready (coreIn (now times) (now words)) (now memory) (now packet) (now numbers) n 63 ⌝ }
+    requires { ⌜ Seen (now packet) (now counters) h byte × (h .pid < length (now counters)) ⌝ }
+    ensures { λ r. ⌜ Done (step2 time (now (packet .entry)) (now (counters .entry)) (held (coreIn (now (times .entry)) (now (words .entry))) (now (memory .entry)))) 63
+        (coreIn (now (times .exit)) (now (words .exit))) (now (counters .exit)) (now (memory .exit)) (now (numbers .entry)) n (now (numbers .exit)) r ⌝ }
+    ensures { λ r. ⌜ Moved (now (times .entry)) (now (words .entry)) (now (times .exit)) (now (words .exit)) ⌝ }
+{
+    if h.error {
+        return events::put(numbers, n, time, TRANSPORT_ERROR, NO_CAUSE, h.pid);
+    }
+    if (h.pid == NULL_PID) | (h.control == 0) {
+        return n;
+    }
+    judge_counter(
+        times,
+        words,
+        time,
+        packet,
+        h,
+        byte,
+        counters,
+        memory,
+        numbers,
+        n,
+    )
+}
+
+// A packet at a time, its header and the table byte of its PID: steps 1 to 5. Its events are laid from the place n on.
+pub fn judge_packet(
+    times: &mut [u64],
+    words: &mut [u16],
+    time: u64,
+    packet: &[u8],
+    h: Header,
+    byte: u8,
+    counters: &mut [u8],
+    memory: &mut [u8; 24576],
+    numbers: &mut [u64],
+    n: usize,
+) -> usize
+    requires { ⌜ Sized (now times) (now words) × Judgeable (coreIn (now times) (now words)) (now packet) (now counters) (now memory) (now numbers) n ⌝ }
+    requires { ⌜ Seen (now packet) (now counters) h byte × (h .pid < length (now counters)) ⌝ }
+    ensures { λ r. ⌜ Done (step1 time (now (packet .entry)) (now (counters .entry)) (held (coreIn (now (times .entry)) (now (words .entry))) (now (memory .entry)))) 65
+        (coreIn (now (times .exit)) (now (words .exit))) (now (counters .exit)) (now (memory .exit)) (now (numbers .entry)) n (now (numbers .exit)) r ⌝ }
+    ensures { λ r. ⌜ LatestKept (now (times .entry)) (now (times .exit)) × SyncTold (now (words .exit)) ⌝ }
+{
     let right = packet[0] == SYNC_BYTE;
-    let y = sync::judge_sync(core, right, time, h.pid, numbers, n);
-    let synced = sync::resync(core, y);
-    if y.further {
-        let v = judge_header(synced, time, packet, h, counters, numbers, y.n);
-        return take_course(synced, time, packet, h, v, memory, numbers);
+    let y = sync::judge_sync(words, right, time, h.pid, numbers, n);
+    if !y.further {
+        return y.n;
     }
-    Stepped {
-        core: synced,
-        n: y.n,
-    }
+    judge_header(
+        times,
+        words,
+        time,
+        packet,
+        h,
+        byte,
+        counters,
+        memory,
+        numbers,
+        y.n,
+    )
 }

@@ -4,10 +4,10 @@ ghost use mathlib.Core.Bool.{_&&_};
 ghost use mathlib.Core.List.{[], _∷_};
 ghost use Prim.Native.Nat.{ℕ, _+_, _<_, _≤_};
 ghost use lib.Dec.{leb, ltb};
-ghost use lib.ListN.{length, getD, take};
+ghost use lib.ListN.{length, getD};
 ghost use Rattle.events.specs.Events.{eventsLaid};
-ghost use Rattle.watches.specs.Tables.{fixedTables, tableOf, noEntry, latestTime};
-ghost use Rattle.watches.specs.Late.{lateEvents, tablesLate, entriesLate};
+ghost use Rattle.watches.specs.Tables.{fixedTables, tableOf, latestTime};
+ghost use Rattle.watches.specs.Late.{lateEvents, tablesLate, entryLate};
 
 // A listed programme: its number, its PMT PID, and the start of its present gap.
 pub struct Entry {
@@ -113,10 +113,10 @@ fn late_row(
 }
 
 // The late events of the fixed watches, at most five, laid from the place n on; the next place.
-pub fn late_tables(list: &mut [u64], n: usize, p: u64, t: u64, since: [u64; 5]) -> usize
-    requires { ⌜ (n + 5 ≤ 96) × (384 ≤ length (now list)) × ((k : ℕ) → getD since k 0 ≤ latestTime) ⌝ }
-    ensures { λ r. ⌜ (r ≡ n + length (tablesLate p t fixedTables since))
-        × (now (list .exit) ≡ eventsLaid (now (list .entry)) n (tablesLate p t fixedTables since)) ⌝ }
+pub fn late_tables(list: &mut [u64], n: usize, p: u64, t: u64, since: &[u64]) -> usize
+    requires { ⌜ (n + 5 ≤ 96) × (384 ≤ length (now list)) × (length (now since) ≡ 5) × ((k : ℕ) → getD (now since) k 0 ≤ latestTime) ⌝ }
+    ensures { λ r. ⌜ (r ≡ n + length (tablesLate p t fixedTables (now (since .entry))))
+        × (now (list .exit) ≡ eventsLaid (now (list .entry)) n (tablesLate p t fixedTables (now (since .entry)))) ⌝ }
 {
     let mut m = n;
     let mut k: usize = 0;
@@ -127,28 +127,11 @@ pub fn late_tables(list: &mut [u64], n: usize, p: u64, t: u64, since: [u64; 5]) 
     m
 }
 
-// The late events of the listed programmes, at most sixteen, laid from the place n on; the next place.
-// Their ids are programme numbers, of sixteen bits.
-pub fn late_entries(
-    list: &mut [u64],
-    n: usize,
-    p: u64,
-    t: u64,
-    entries: [Entry; 16],
-    count: usize,
-) -> usize
-    requires { ⌜ (n + 16 ≤ 96) × (384 ≤ length (now list)) × (count ≤ 16) ⌝ }
-    requires { ⌜ ((k : ℕ) → k < count → getD entries k noEntry .since ≤ latestTime) ⌝ }
-    ensures { λ r. ⌜ (r ≡ n + length (entriesLate p t (take count entries)))
-        × (now (list .exit) ≡ eventsLaid (now (list .entry)) n (entriesLate p t (take count entries)))
-        × ((k : ℕ) → k < count → getD entries k noEntry .number < 65536) ⌝ }
+// The late event of a listed programme, if there is one, laid at the place n; the next place. Its id is the programme
+// number, of sixteen bits.
+pub fn late_entry(list: &mut [u64], n: usize, p: u64, t: u64, e: Entry) -> usize
+    requires { ⌜ (n < 96) × (384 ≤ length (now list)) × (e .since ≤ latestTime) ⌝ }
+    ensures { λ r. ⌜ (r ≡ n + length (entryLate p t e)) × (now (list .exit) ≡ eventsLaid (now (list .entry)) n (entryLate p t e)) × (e .number < 65536) ⌝ }
 {
-    let mut m = n;
-    let mut k: usize = 0;
-    while k < count {
-        let e = entries[k];
-        m = late_row(list, m, p, t, e.since, PMT_LIMIT, PMT_ERROR, e.number);
-        k += 1;
-    }
-    m
+    late_row(list, n, p, t, e.since, PMT_LIMIT, PMT_ERROR, e.number)
 }

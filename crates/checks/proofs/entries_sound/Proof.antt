@@ -1,58 +1,71 @@
 -- `checks::entries_sound` meets its contract. Assumes nothing.
 use borrow.Author.Needs.{needs}
+use native.Mathlib.Omega.{arith}
+use denote.Ref.{now}
 use mathlib.Core.Path.{_≡_, refl, sym, ap, subst, _∙_}
 use mathlib.Core.Bool.{true, false, true≢false}
 use mathlib.Core.List.{List}
 use mathlib.Core.Logic.{⊎-elim}
-use Prim.Native.Nat.{ℕ, _+_, _-_, _≤_}
-use native.Mathlib.Omega.{arith}
-use lib.ListN.{length, getD, take, drop, length-set}
+use Prim.Native.Nat.{ℕ, _+_, _-_, _%_, _≤_}
+use lib.ListN.{length, getD, set, take, drop, length-set}
 use borrow.Author.Tests.{not-true, not-false}
 use Rattle.watches.specs.declared.Entry.{Entry}
 use Rattle.watches.specs.Tables.{noEntry}
-use Rattle.calls.specs.Sound.{numberAmong, entriesSound}
+use Rattle.calls.specs.Sound.{numberAmong, entrySound, entriesSound}
+use Rattle.arrays.specs.Lent.{entriesIn}
+use Rattle.arrays.proofs.Stores.{entry-at, entries-length}
 use Rattle.checks.proofs.Turns.{among-none, entries-here, entries-twice, entries-on, entries-none}
 use Rattle.checks.proofs.Marks.{Marked, unmarked-none, marked-turn, unsound-end}
 use Rattle.checks.proofs.entries_sound.Statement.{statement}
 use Rattle.checks.proofs.entries_sound.Tie as tie
 
 abbrev Inv-loop : tie.InvT-loop
-Inv-loop count entries marks₀ i₀ marks i =
+Inv-loop times words count marks₀ i₀ marks i =
     (i ≤ count)
     × (length marks ≡ 64)
-    × Marked marks (drop i (take count entries))
-    × (entriesSound (drop i (take count entries)) ≡ true)
+    × Marked marks (drop i (take count (entriesIn times words)))
+    × (entriesSound (drop i (take count (entriesIn times words))) ≡ true)
 
 abbrev μ-loop : tie.MeasureT-loop
-μ-loop count entries marks₀ i₀ marks i = i
+μ-loop times words count marks₀ i₀ marks i = i
 
 loop-holds : tie.Need-loop-holds Inv-loop μ-loop
 loop-holds c =
-    let args = c .args in (
+    let start = c .before .before in
+    let times = now (start .args .times) in
+    let words = now (start .args .words) in
+    let es = entriesIn times words in
+    let count = start .args .count in
+    let fits : count ≤ length es = omega (arith, entries-length times words) in (
       omega arith,
       refl,
-      λ n e. absurd (true≢false (sym e ∙ among-none (args .t1) (args .count) (args .count) (omega arith) n (omega arith))),
-      entries-none (args .t1) (args .count) (args .count) (omega arith) (omega arith),
+      λ n e. absurd (true≢false (sym e ∙ among-none es count count fits n (omega arith))),
+      entries-none es count count fits (omega arith),
     )
 
 sub-i : tie.Need-sub-i Inv-loop μ-loop
 sub-i c = search needs
 
-mul-e : tie.Need-mul-e Inv-loop μ-loop
-mul-e c = search needs
-
-array-copy-out-e : tie.Need-array-copy-out-e Inv-loop μ-loop
-array-copy-out-e c = search needs
+entry-at-requires : tie.Need-entry-at-requires Inv-loop μ-loop
+entry-at-requires c κs = search needs
 
 entry-sound-requires : tie.Need-entry-sound-requires Inv-loop μ-loop
 entry-sound-requires c κs = search needs
 
 returns : tie.Need-returns Inv-loop μ-loop
 returns c =
-    let i = c .before .before .before .before .loop .i - 1 in
-    let args = c .before .before .before .before .before .args in
-    let here = sym (c .before .entry-sound .ensures) ∙ not-true _ (c .if1 .taken) in
-    sym (unsound-end (take (args .count) (args .t1)) i (entries-here (args .t1) (args .count) i (omega arith) (omega arith) here))
+    let loop = c .before .before .before .before .loop in
+    let start = c .before .before .before .before .before .before .before in
+    let times = now (start .args .times) in
+    let words = now (start .args .words) in
+    let es = entriesIn times words in
+    let count = start .args .count in
+    let fits : count ≤ length es = omega (arith, entries-length times words) in
+    let i = loop .i - 1 in
+    let e = c .before .before .entry-at .result in
+    let same : getD es i noEntry ≡ e = entry-at times words i (omega arith) ∙ sym (c .before .before .entry-at .ensures) in
+    let here : entrySound (getD es i noEntry) ≡ false = rw same (sym (c .before .entry-sound .ensures) ∙ not-true _ (c .if1 .taken)) in
+    sym (unsound-end (take count es) i (entries-here es count i fits (omega arith) here))
 
 cast-mark : tie.Need-cast-mark Inv-loop μ-loop
 cast-mark c = search needs
@@ -68,10 +81,18 @@ number-among-requires c κs = search needs
 
 returns-2 : tie.Need-returns-2 Inv-loop μ-loop
 returns-2 c =
-    let i = c .before .before .before .before .before .before .before .before .loop .i - 1 in
-    let args = c .before .before .before .before .before .before .before .before .before .args in
-    let twice = sym (c .before .number-among .ensures) ∙ c .if3 .taken in
-    sym (unsound-end (take (args .count) (args .t1)) i (entries-twice (args .t1) (args .count) i (omega arith) (omega arith) twice))
+    let loop = c .before .before .before .before .before .before .before .before .loop in
+    let start = c .before .before .before .before .before .before .before .before .before .before .before in
+    let times = now (start .args .times) in
+    let words = now (start .args .words) in
+    let es = entriesIn times words in
+    let count = start .args .count in
+    let fits : count ≤ length es = omega (arith, entries-length times words) in
+    let i = loop .i - 1 in
+    let e = c .before .before .before .before .before .before .entry-at .result in
+    let same : getD es i noEntry ≡ e = entry-at times words i (omega arith) ∙ sym (c .before .before .before .before .before .before .entry-at .ensures) in
+    let twice : numberAmong (getD es i noEntry .number) (drop (i + 1) (take count es)) ≡ true = rw same (sym (c .before .number-among .ensures) ∙ c .if3 .taken) in
+    sym (unsound-end (take count es) i (entries-twice es count i fits (omega arith) twice))
 
 array-write-marks : tie.Need-array-write-marks Inv-loop μ-loop
 array-write-marks c = search needs
@@ -82,28 +103,35 @@ loop-less c = search needs
 loop-again : tie.Need-loop-again Inv-loop μ-loop
 loop-again c =
     let loop = c .before .before .before .before .before .before .loop in
-    let args = c .before .before .before .before .before .before .before .args in
+    let start = c .before .before .before .before .before .before .before .before .before in
+    let times = now (start .args .times) in
+    let words = now (start .args .words) in
+    let es = entriesIn times words in
+    let count = start .args .count in
+    let fits : count ≤ length es = omega (arith, entries-length times words) in
     let i = loop .i - 1 in
+    let e = c .before .before .before .before .entry-at .result in
+    let same : getD es i noEntry ≡ e = entry-at times words i (omega arith) ∙ sym (c .before .before .before .before .entry-at .ensures) in
     let next : loop .i ≡ i + 1 = omega arith in
-    let rest : ℕ → List Entry = λ j. drop j (take (args .count) (args .t1)) in
+    let rest : ℕ → List Entry = λ j. drop j (take count es) in
     let marked = subst (λ (j : ℕ). Marked (loop .marks) (rest j)) next (loop .inv .2) in
-    let here = sym (c .before .before .before .entry-sound .ensures) ∙ not-false _ (c .before .before .if1 .left) in
-    let once =
-    ⊎-elim {C = numberAmong (getD (args .t1) i noEntry .number) (rest (i + 1)) ≡ false}
+    let here : entrySound (getD es i noEntry) ≡ true = rw same (sym (c .before .before .before .entry-sound .ensures) ∙ not-false _ (c .before .before .if1 .left)) in
+    let once : numberAmong (e .number) (rest (i + 1)) ≡ false =
+    ⊎-elim {C = numberAmong (e .number) (rest (i + 1)) ≡ false}
     (λ w. sym (w .1 .ensures) ∙ w .2 .left)
-    (λ w. unmarked-none (loop .marks) (rest (i + 1)) (getD (args .t1) i noEntry .number) marked (w .left))
+    (λ w. unmarked-none (loop .marks) (rest (i + 1)) (e .number) marked (w .left))
     (c .if2 .came) in (
       omega arith,
       length-set (loop .marks) _ _ ∙ loop .inv .1,
-      marked-turn (args .t1) (args .count) i (omega arith) (loop .marks) (omega arith) (loop .inv .1) marked,
-      entries-on (args .t1) (args .count) i (omega arith) (omega arith) here once ∙ ap (λ (j : ℕ). entriesSound (rest j)) (sym next) ∙ loop .inv .3,
+      subst (λ (x : Entry). Marked (set (loop .marks) (x .number % 64) true) (rest i)) same (marked-turn es count i fits (loop .marks) (omega arith) (loop .inv .1) marked),
+      entries-on es count i fits (omega arith) here (rw same once) ∙ ap (λ (j : ℕ). entriesSound (rest j)) (sym next) ∙ loop .inv .3,
     )
 
 returns-3 : tie.Need-returns-3 Inv-loop μ-loop
 returns-3 c =
-    let args = c .before .before .args in
+    let start = c .before .before .before .before in
     let none : c .before .loop .i ≡ 0 = omega arith in
-    sym (subst (λ (j : ℕ). entriesSound (drop j (take (args .count) (args .t1))) ≡ true) none (c .before .loop .inv .3))
+    sym (subst (λ (j : ℕ). entriesSound (drop j (take (start .args .count) (entriesIn (now (start .args .times)) (now (start .args .words))))) ≡ true) none (c .before .loop .inv .3))
 
 pub entries-sound-spec : {M : Type 1} → statement M
 entries-sound-spec =
@@ -113,8 +141,7 @@ entries-sound-spec =
     μ-loop
     loop-holds
     sub-i
-    mul-e
-    array-copy-out-e
+    entry-at-requires
     entry-sound-requires
     returns
     cast-mark

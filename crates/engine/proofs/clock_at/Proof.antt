@@ -1,49 +1,54 @@
 -- `engine::clock_at` meets its contract. Assumes nothing.
 use borrow.Author.Needs.{needs}
-use mathlib.Core.Path.{sym, _∙_}
-use native.Mathlib.Omega.{arith}
 use denote.Ref.{now}
-use Rattle.calls.proofs.Accepted.{clock-accepted, sound-parts, entry-since}
-use Rattle.engine.proofs.Ends.{clock-refused, clock-done}
+use Rattle.engine.proofs.Values.{clock-refused-at, clock-accepted-at}
 use Rattle.engine.proofs.clock_at.Statement.{statement}
 use Rattle.engine.proofs.clock_at.Tie as tie
 
-memory-size-requires : tie.Need-memory-size-requires
-memory-size-requires c κs = search needs
+typed-requires : tie.Need-typed-requires
+typed-requires c κs = search needs
 
-numbers-size-requires : tie.Need-numbers-size-requires
-numbers-size-requires c κs = search needs
+slice-aggregate-lay-times : tie.Need-slice-aggregate-lay-times
+slice-aggregate-lay-times c = search needs
 
-clock-refusal-requires : tie.Need-clock-refusal-requires
-clock-refusal-requires c κs = search needs
+lay-times-requires : tie.Need-lay-times-requires
+lay-times-requires c κs = search needs
+
+slice-aggregate-lay-words : tie.Need-slice-aggregate-lay-words
+slice-aggregate-lay-words c = search needs
+
+lay-words-requires : tie.Need-lay-words-requires
+lay-words-requires c κs = search needs
+
+clock-in-requires : tie.Need-clock-in-requires
+clock-in-requires c κs = search needs
 
 returns : tie.Need-returns
 returns c =
-    let args = c .before .before .before .before .before .before .args in
-    clock-refused (args .state) (args .time) (now (args .memory)) (args .room) (now (args .numbers)) (c .before .clock-refusal .result) (c .before .clock-refusal .ensures) (c .if1 .taken)
+    let args = c .before .before .before .before .before .before .before .before .before .before .before .before .before .args in
+    let laid = rw (c .before .before .before .before .before .before .before .before .before .before .lay-times .ensures, c .before .before .before .before .before .before .before .lay-words .ensures) at (c .before .before .clock-in .ensures) in
+    clock-refused-at (args .state) (args .time) (now (args .memory)) (args .room) (now (args .numbers)) (c .before .before .before .before .before .before .before .before .before .before .before .before .typed .ensures .1) laid (c .if1 .taken)
 
-judge-late-requires : tie.Need-judge-late-requires
-judge-late-requires c κs =
-    let args = c .before .before .before .before .before .before .before .before .args in
-    let e = sym (c .before .before .before .clock-refusal .ensures) ∙ c .before .before .if1 .left in
-    let a = clock-accepted (args .state) (args .time) (now (args .memory)) (args .room) e in
-    let h = sound-parts (args .state) (now (args .memory)) (a .sound) in
-    (omega (arith, c .before .before .before .before .before .numbers-size .ensures .1), h .count, h .since, entry-since (args .state) (now (args .memory)) h)
+state-in-requires : tie.Need-state-in-requires
+state-in-requires c κs = search needs
 
 returns-2 : tie.Need-returns-2
 returns-2 c =
-    let args = c .before .before .before .before .before .before .before .before .before .args in
-    let e = sym (c .before .before .before .before .clock-refusal .ensures) ∙ c .before .before .before .if1 .left in
-    let l = c .judge-late .ensures in
-    clock-done (args .state) (args .time) (now (args .memory)) (args .room) (now (args .numbers)) _ _ e (l .0) (l .1) (l .2) (l .3)
+    let args = c .before .before .before .before .before .before .before .before .before .before .before .before .before .before .before .before .args in
+    let laid = rw (c .before .before .before .before .before .before .before .before .before .before .before .before .before .lay-times .ensures, c .before .before .before .before .before .before .before .before .before .before .lay-words .ensures) at (c .before .before .before .before .before .clock-in .ensures) in
+    let end = clock-accepted-at (args .state) (args .time) (now (args .memory)) (args .room) (now (args .numbers)) (c .before .before .before .before .before .before .before .before .before .before .before .before .before .before .before .typed .ensures .1) laid (c .before .before .before .if1 .left) in
+    rw (c .state-in .ensures) end
 
 pub clock-at-spec : {M : Type 1} → statement M
 clock-at-spec =
     tie.close
     (tie.spec
-    memory-size-requires
-    numbers-size-requires
-    clock-refusal-requires
+    typed-requires
+    slice-aggregate-lay-times
+    lay-times-requires
+    slice-aggregate-lay-words
+    lay-words-requires
+    clock-in-requires
     returns
-    judge-late-requires
+    state-in-requires
     returns-2)

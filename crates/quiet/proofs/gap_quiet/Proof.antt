@@ -11,10 +11,7 @@ add-stamp : tie.Need-add-stamp
 add-stamp c = search needs
 
 returns-2 : tie.Need-returns-2
-returns-2 c = rw (le-leb _ _ (c .before .if1 .left), le-leb _ _ (c .if2 .taken))
-
-returns-3 : tie.Need-returns-3
-returns-3 c = rw (le-leb _ _ (c .before .if1 .left), lt-leb _ _ (c .if2 .left))
+returns-2 c = rw (le-leb _ _ (c .if1 .left))
 
 pub gap-quiet-spec : {M : Type 1} → statement M
-gap-quiet-spec = tie.close (tie.spec returns add-stamp returns-2 returns-3)
+gap-quiet-spec = tie.close (tie.spec returns add-stamp returns-2)

@@ -1,30 +1,31 @@
 -- `quiet::state_quiet` meets its contract. Assumes nothing.
 use borrow.Author.Needs.{needs}
-use mathlib.Core.Path.{sym, _∙_}
-use mathlib.Core.Bool.{_&&_}
-use Prim.Native.Nat.{_≤_}
-use lib.Dec.{leb, eqb}
 use native.Mathlib.Omega.{arith}
-use lib.ListN.{getD}
 use denote.Ref.{now}
+use mathlib.Core.Path.{_≡_, sym, ap, _∙_}
+use mathlib.Core.Bool.{true, false, not, _&&_}
+use mathlib.Core.List.{List}
+use Prim.Native.Nat.{ℕ, _≤_}
+use lib.Dec.{leb, eqb}
+use lib.ListN.{length, getD, take}
 use borrow.Author.Tests.{leb-true, not-true, not-false}
-use Rattle.lists.proofs.Tests.{and-right}
-use Rattle.lists.specs.Places.{part}
 use Rattle.lists.proofs.Places.{part-length}
-use Rattle.arrays.specs.Lent.{stateIn}
-use Rattle.quiet.specs.Quiet.{stateQuiet}
-use Rattle.quiet.proofs.Turns.{sync-same}
+use Rattle.lists.proofs.Tests.{and-right}
+use Rattle.watches.specs.Tables.{fixedTables}
+use Rattle.calls.specs.Sound.{roomsSound}
+use Rattle.arrays.specs.Lent.{syncLost, syncRun, gapsIn, countIn, entriesIn, halvesIn, stateIn}
+use Rattle.quiet.specs.Quiet.{tablesQuiet, entriesQuiet, unmarked, stateQuiet}
 use Rattle.quiet.proofs.state_quiet.Statement.{statement}
 use Rattle.quiet.proofs.state_quiet.Tie as tie
 
-shared-slice-read-count : tie.Need-shared-slice-read-count
-shared-slice-read-count c = search needs
+count-in-requires : tie.Need-count-in-requires
+count-in-requires c κs = search needs
 
-shared-slice-read-sync-quiet : tie.Need-shared-slice-read-sync-quiet
-shared-slice-read-sync-quiet c = search needs
+sync-lost-requires : tie.Need-sync-lost-requires
+sync-lost-requires c κs = search needs
 
-shared-slice-read-sync-quiet-2 : tie.Need-shared-slice-read-sync-quiet-2
-shared-slice-read-sync-quiet-2 c = search needs
+sync-run-requires : tie.Need-sync-run-requires
+sync-run-requires c κs = search needs
 
 sync-quiet-requires : tie.Need-sync-quiet-requires
 sync-quiet-requires c κs = search needs
@@ -32,11 +33,16 @@ sync-quiet-requires c κs = search needs
 returns : tie.Need-returns
 unfolding stateQuiet stateIn
 returns c =
-    let words = c .before .before .before .before .before .before .before .before .args .words .now in
-    rw (sym (sync-same (getD words 53 0) (getD words 54 0) (getD words 55 0)) ∙ sym (c .before .sync-quiet .ensures) ∙ not-true _ (c .if1 .taken))
+    let start = c .before .before .before .before .before .before .before .before in
+    let times = now (start .args .times) in
+    let words = now (start .args .words) in
+    let memory = now (start .args .memory) in
+    let count = c .before .before .before .before .count-in .ensures in
+    let sync : (not (syncLost words) && eqb (syncRun words) 0 && leb (countIn words) 16) ≡ false = rw (sym (c .before .before .before .sync-lost .ensures), sym (c .before .before .sync-run .ensures), sym count) (sym (c .before .sync-quiet .ensures) ∙ not-true _ (c .if1 .taken)) in
+    rw (sync)
 
-shared-slice-read-latest-quiet : tie.Need-shared-slice-read-latest-quiet
-shared-slice-read-latest-quiet c = search needs
+shared-slice-read-p : tie.Need-shared-slice-read-p
+shared-slice-read-p c = search needs
 
 latest-quiet-requires : tie.Need-latest-quiet-requires
 latest-quiet-requires c κs = search needs
@@ -44,113 +50,92 @@ latest-quiet-requires c κs = search needs
 returns-2 : tie.Need-returns-2
 unfolding stateQuiet stateIn
 returns-2 c =
-    let words = c .before .before .before .before .before .before .before .before .before .before .before .args .words .now in
-    rw (
-      sym (sync-same (getD words 53 0) (getD words 54 0) (getD words 55 0)) ∙ sym (c .before .before .before .before .sync-quiet .ensures) ∙ not-false _ (c .before .before .before .if1 .left),
-      sym (c .before .latest-quiet .ensures) ∙ not-true _ (c .if2 .taken),
-    )
+    let start = c .before .before .before .before .before .before .before .before .before .before .before in
+    let times = now (start .args .times) in
+    let words = now (start .args .words) in
+    let memory = now (start .args .memory) in
+    let count = c .before .before .before .before .before .before .before .count-in .ensures in
+    let sync : (not (syncLost words) && eqb (syncRun words) 0 && leb (countIn words) 16) ≡ true = rw (sym (c .before .before .before .before .before .before .sync-lost .ensures), sym (c .before .before .before .before .before .sync-run .ensures), sym count) (sym (c .before .before .before .before .sync-quiet .ensures) ∙ not-false _ (c .before .before .before .if1 .left)) in
+    rw (sync, sym (c .before .latest-quiet .ensures) ∙ not-true _ (c .if2 .taken))
 
-sub-rooms-quiet : tie.Need-sub-rooms-quiet
-sub-rooms-quiet c = search needs
-
-part-rooms-quiet-start : tie.Need-part-rooms-quiet-start
-part-rooms-quiet-start c = search needs
-
-part-rooms-quiet-end : tie.Need-part-rooms-quiet-end
-part-rooms-quiet-end c = search needs
+halves-of-requires : tie.Need-halves-of-requires
+halves-of-requires c κs = search needs
 
 rooms-quiet-requires : tie.Need-rooms-quiet-requires
-unfolding part
-rooms-quiet-requires c κs =
-    let start = c .before .before .before .before .before .before .before .before .before .before .before .before in
-    (part-length (now (start .args .words)) 32 21 (omega (arith, start .pre .1)), start .pre .2)
+rooms-quiet-requires c κs = (ap length (c .halves-of .ensures) ∙ part-length (now (c .before .before .before .before .before .before .before .before .before .before .before .before .args .words)) 32 21 (omega arith), search needs)
 
 returns-3 : tie.Need-returns-3
-unfolding stateQuiet stateIn part
+unfolding stateQuiet stateIn
 returns-3 c =
-    let words = c .before .before .before .before .before .before .before .before .before .before .before .before .before .before .args .words .now in
-    rw (
-      sym (sync-same (getD words 53 0) (getD words 54 0) (getD words 55 0)) ∙ sym (c .before .before .before .before .before .before .before .sync-quiet .ensures) ∙ not-false _ (c .before .before .before .before .before .before .if1 .left),
-      sym (c .before .before .before .before .latest-quiet .ensures) ∙ not-false _ (c .before .before .before .if2 .left),
-      sym (c .before .rooms-quiet .ensures) ∙ not-true _ (c .if3 .taken),
-    )
+    let start = c .before .before .before .before .before .before .before .before .before .before .before .before .before .before in
+    let times = now (start .args .times) in
+    let words = now (start .args .words) in
+    let memory = now (start .args .memory) in
+    let count = c .before .before .before .before .before .before .before .before .before .before .count-in .ensures in
+    let sync : (not (syncLost words) && eqb (syncRun words) 0 && leb (countIn words) 16) ≡ true = rw (sym (c .before .before .before .before .before .before .before .before .before .sync-lost .ensures), sym (c .before .before .before .before .before .before .before .before .sync-run .ensures), sym count) (sym (c .before .before .before .before .before .before .before .sync-quiet .ensures) ∙ not-false _ (c .before .before .before .before .before .before .if1 .left)) in
+    let rooms : roomsSound (halvesIn words) memory ≡ false = ap (λ (ns : List ℕ). roomsSound ns memory) (sym (c .before .before .halves-of .ensures)) ∙ sym (c .before .rooms-quiet .ensures) ∙ not-true _ (c .if3 .taken) in
+    rw (sync, sym (c .before .before .before .before .latest-quiet .ensures) ∙ not-false _ (c .before .before .before .if2 .left), rooms)
 
-sub-tables-quiet : tie.Need-sub-tables-quiet
-sub-tables-quiet c = search needs
-
-part-tables-quiet-start : tie.Need-part-tables-quiet-start
-part-tables-quiet-start c = search needs
-
-part-tables-quiet-end : tie.Need-part-tables-quiet-end
-part-tables-quiet-end c = search needs
-
-shared-slice-read-tables-quiet : tie.Need-shared-slice-read-tables-quiet
-shared-slice-read-tables-quiet c = search needs
+gaps-of-requires : tie.Need-gaps-of-requires
+gaps-of-requires c κs = search needs
 
 tables-quiet-requires : tie.Need-tables-quiet-requires
-unfolding part
-tables-quiet-requires c κs =
-    let start = c .before .before .before .before .before .before .before .before .before .before .before .before .before .before .before .before in
-    part-length (now (start .args .times)) 1 5 (omega (arith, start .pre .0))
+tables-quiet-requires c κs = ap length (c .gaps-of .ensures) ∙ part-length (now (c .before .before .before .before .before .before .before .before .before .before .before .before .before .before .before .args .times)) 1 5 (omega arith)
 
 returns-4 : tie.Need-returns-4
-unfolding stateQuiet stateIn part
+unfolding stateQuiet stateIn
 returns-4 c =
-    let words = c .before .before .before .before .before .before .before .before .before .before .before .before .before .before .before .before .before .before .args .words .now in
-    rw (
-      sym (sync-same (getD words 53 0) (getD words 54 0) (getD words 55 0)) ∙ sym (c .before .before .before .before .before .before .before .before .before .before .before .sync-quiet .ensures) ∙ not-false _ (c .before .before .before .before .before .before .before .before .before .before .if1 .left),
-      sym (c .before .before .before .before .before .before .before .before .latest-quiet .ensures) ∙ not-false _ (c .before .before .before .before .before .before .before .if2 .left),
-      sym (c .before .before .before .before .before .rooms-quiet .ensures) ∙ not-false _ (c .before .before .before .before .if3 .left),
-      sym (c .before .tables-quiet .ensures) ∙ not-true _ (c .if4 .taken),
-    )
-
-cast-entries-quiet : tie.Need-cast-entries-quiet
-cast-entries-quiet c =
-    let words = c .before .before .before .before .before .before .before .before .before .before .before .before .before .before .before .before .before .before .args .words .now in
-    let few : getD words 55 0 ≤ 16 = leb-true (getD words 55 0) 16 (and-right (eqb (getD words 53 0) 0 && eqb (getD words 54 0) 0) (leb (getD words 55 0) 16) (sym (c .before .before .before .before .before .before .before .before .before .before .before .sync-quiet .ensures) ∙ not-false _ (c .before .before .before .before .before .before .before .before .before .before .if1 .left))) in
-    search (needs, few)
+    let start = c .before .before .before .before .before .before .before .before .before .before .before .before .before .before .before .before .before in
+    let times = now (start .args .times) in
+    let words = now (start .args .words) in
+    let memory = now (start .args .memory) in
+    let count = c .before .before .before .before .before .before .before .before .before .before .before .before .before .count-in .ensures in
+    let sync : (not (syncLost words) && eqb (syncRun words) 0 && leb (countIn words) 16) ≡ true = rw (sym (c .before .before .before .before .before .before .before .before .before .before .before .before .sync-lost .ensures), sym (c .before .before .before .before .before .before .before .before .before .before .before .sync-run .ensures), sym count) (sym (c .before .before .before .before .before .before .before .before .before .before .sync-quiet .ensures) ∙ not-false _ (c .before .before .before .before .before .before .before .before .before .if1 .left)) in
+    let rooms : roomsSound (halvesIn words) memory ≡ true = ap (λ (ns : List ℕ). roomsSound ns memory) (sym (c .before .before .before .before .before .halves-of .ensures)) ∙ sym (c .before .before .before .before .rooms-quiet .ensures) ∙ not-false _ (c .before .before .before .if3 .left) in
+    let tables : tablesQuiet (getD times 0 0) (start .args .t) fixedTables (gapsIn times) ≡ false = ap (λ (ss : List ℕ). tablesQuiet (getD times 0 0) (start .args .t) fixedTables ss) (sym (c .before .before .gaps-of .ensures)) ∙ sym (c .before .tables-quiet .ensures) ∙ not-true _ (c .if4 .taken) in
+    rw (sync, sym (c .before .before .before .before .before .before .before .latest-quiet .ensures) ∙ not-false _ (c .before .before .before .before .before .before .if2 .left), rooms, tables)
 
 entries-quiet-requires : tie.Need-entries-quiet-requires
 entries-quiet-requires c κs =
-    let words = c .before .before .before .before .before .before .before .before .before .before .before .before .before .before .before .before .before .before .args .words .now in
-    let few : getD words 55 0 ≤ 16 = leb-true (getD words 55 0) 16 (and-right (eqb (getD words 53 0) 0 && eqb (getD words 54 0) 0) (leb (getD words 55 0) 16) (sym (c .before .before .before .before .before .before .before .before .before .before .before .sync-quiet .ensures) ∙ not-false _ (c .before .before .before .before .before .before .before .before .before .before .if1 .left))) in
-    search (needs, few)
+    let start = c .before .before .before .before .before .before .before .before .before .before .before .before .before .before .before .before .before in
+    let times = now (start .args .times) in
+    let words = now (start .args .words) in
+    let memory = now (start .args .memory) in
+    let count = c .before .before .before .before .before .before .before .before .before .before .before .before .before .count-in .ensures in
+    let sync : (not (syncLost words) && eqb (syncRun words) 0 && leb (countIn words) 16) ≡ true = rw (sym (c .before .before .before .before .before .before .before .before .before .before .before .before .sync-lost .ensures), sym (c .before .before .before .before .before .before .before .before .before .before .before .sync-run .ensures), sym count) (sym (c .before .before .before .before .before .before .before .before .before .before .sync-quiet .ensures) ∙ not-false _ (c .before .before .before .before .before .before .before .before .before .if1 .left)) in
+    let few : countIn words ≤ 16 = leb-true (countIn words) 16 (and-right (not (syncLost words) && eqb (syncRun words) 0) (leb (countIn words) 16) sync) in
+    search (needs, few, count)
 
 returns-5 : tie.Need-returns-5
-unfolding stateQuiet stateIn part
+unfolding stateQuiet stateIn
 returns-5 c =
-    let words = c .before .before .before .before .before .before .before .before .before .before .before .before .before .before .before .before .before .before .before .args .words .now in
-    rw (
-      sym (sync-same (getD words 53 0) (getD words 54 0) (getD words 55 0)) ∙ sym (c .before .before .before .before .before .before .before .before .before .before .before .before .sync-quiet .ensures) ∙ not-false _ (c .before .before .before .before .before .before .before .before .before .before .before .if1 .left),
-      sym (c .before .before .before .before .before .before .before .before .before .latest-quiet .ensures) ∙ not-false _ (c .before .before .before .before .before .before .before .before .if2 .left),
-      sym (c .before .before .before .before .before .before .rooms-quiet .ensures) ∙ not-false _ (c .before .before .before .before .before .if3 .left),
-      sym (c .before .before .tables-quiet .ensures) ∙ not-false _ (c .before .if4 .left),
-    )
-    (c .entries-quiet .ensures)
+    let start = c .before .before .before .before .before .before .before .before .before .before .before .before .before .before .before .before .before .before in
+    let times = now (start .args .times) in
+    let words = now (start .args .words) in
+    let memory = now (start .args .memory) in
+    let count = c .before .before .before .before .before .before .before .before .before .before .before .before .before .before .count-in .ensures in
+    let sync : (not (syncLost words) && eqb (syncRun words) 0 && leb (countIn words) 16) ≡ true = rw (sym (c .before .before .before .before .before .before .before .before .before .before .before .before .before .sync-lost .ensures), sym (c .before .before .before .before .before .before .before .before .before .before .before .before .sync-run .ensures), sym count) (sym (c .before .before .before .before .before .before .before .before .before .before .before .sync-quiet .ensures) ∙ not-false _ (c .before .before .before .before .before .before .before .before .before .before .if1 .left)) in
+    let rooms : roomsSound (halvesIn words) memory ≡ true = ap (λ (ns : List ℕ). roomsSound ns memory) (sym (c .before .before .before .before .before .before .halves-of .ensures)) ∙ sym (c .before .before .before .before .before .rooms-quiet .ensures) ∙ not-false _ (c .before .before .before .before .if3 .left) in
+    let tables : tablesQuiet (getD times 0 0) (start .args .t) fixedTables (gapsIn times) ≡ true = ap (λ (ss : List ℕ). tablesQuiet (getD times 0 0) (start .args .t) fixedTables ss) (sym (c .before .before .before .gaps-of .ensures)) ∙ sym (c .before .before .tables-quiet .ensures) ∙ not-false _ (c .before .if4 .left) in
+    rw (sync, sym (c .before .before .before .before .before .before .before .before .latest-quiet .ensures) ∙ not-false _ (c .before .before .before .before .before .before .before .if2 .left), rooms, tables) (c .entries-quiet .ensures ∙ ap (λ (n : ℕ). entriesQuiet (getD times 0 0) (start .args .t) (start .args .q) unmarked (take n (entriesIn times words))) count)
 
 pub state-quiet-spec : {M : Type 1} → statement M
 state-quiet-spec =
     tie.close
     (tie.spec
-    shared-slice-read-count
-    shared-slice-read-sync-quiet
-    shared-slice-read-sync-quiet-2
+    count-in-requires
+    sync-lost-requires
+    sync-run-requires
     sync-quiet-requires
     returns
-    shared-slice-read-latest-quiet
+    shared-slice-read-p
     latest-quiet-requires
     returns-2
-    sub-rooms-quiet
-    part-rooms-quiet-start
-    part-rooms-quiet-end
+    halves-of-requires
     rooms-quiet-requires
     returns-3
-    sub-tables-quiet
-    part-tables-quiet-start
-    part-tables-quiet-end
-    shared-slice-read-tables-quiet
+    gaps-of-requires
     tables-quiet-requires
     returns-4
-    cast-entries-quiet
     entries-quiet-requires
     returns-5)

@@ -1,32 +1,28 @@
 -- `steps::list_room` meets its contract. Assumes nothing.
 use borrow.Author.Needs.{needs}
-use native.Mathlib.Omega.{arith}
-use lib.Seq.{length-take-le}
+use denote.Ref.{now}
+use mathlib.Core.Path.{sym, ap, _∙_}
+use Prim.Native.Nat.{ℕ, _+_}
 use borrow.Author.Tests.{lt-ltb, le-ltb}
+use Rattle.steps.proofs.Rooms.{listed-test}
 use Rattle.steps.proofs.list_room.Statement.{statement}
 use Rattle.steps.proofs.list_room.Tie as tie
 
-place-of-requires : tie.Need-place-of-requires
-place-of-requires c κs = search needs
+place-in-requires : tie.Need-place-in-requires
+place-in-requires c κs = search needs
+
+count-in-requires : tie.Need-count-in-requires
+count-in-requires c κs = search needs
 
 add-result : tie.Need-add-result
 add-result c = search needs
 
 returns : tie.Need-returns
-returns c =
-    let args = c .before .before .args in
-    let place-of = c .before .place-of in
-    let whole = length-take-le (args .count) (args .entries) (omega arith) in
-    let listed = rw (place-of .ensures) at (lt-ltb _ _ (c .if1 .taken)) in
-    rw (whole, listed, place-of .ensures)
+returns c = λ times. rw (sym (listed-test times (now (c .before .before .before .before .args .words)) (c .before .before .before .before .args .pid) _ _ (c .before .before .place-in .ensures times) (c .before .count-in .ensures) (search needs)) ∙ lt-ltb _ _ (c .if1 .taken)) (ap (λ (k : ℕ). 5 + k) (c .before .before .place-in .ensures times))
 
 returns-2 : tie.Need-returns-2
-returns-2 c =
-    let args = c .before .before .args in
-    let place-of = c .before .place-of in
-    let whole = length-take-le (args .count) (args .entries) (omega arith) in
-    let listed = rw (place-of .ensures) at (le-ltb _ _ (c .if1 .left)) in
-    rw (whole, listed)
+returns-2 c = λ times. rw (sym (listed-test times (now (c .before .before .before .before .args .words)) (c .before .before .before .before .args .pid) _ _ (c .before .before .place-in .ensures times) (c .before .count-in .ensures) (search needs)) ∙ le-ltb _ _ (c .if1 .left))
 
 pub list-room-spec : {M : Type 1} → statement M
-list-room-spec = tie.close (tie.spec place-of-requires add-result returns returns-2)
+list-room-spec =
+    tie.close (tie.spec place-in-requires count-in-requires add-result returns returns-2)

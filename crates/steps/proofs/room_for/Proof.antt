@@ -12,7 +12,7 @@ returns : tie.Need-returns
 unfolding roomFor
 returns c =
     let fixed = rw (c .before .fixed-room .ensures) at (lt-ltb _ 5 (c .if1 .taken)) in
-    rw fixed (c .before .fixed-room .ensures)
+    λ times. rw fixed (c .before .fixed-room .ensures)
 
 list-room-requires : tie.Need-list-room-requires
 list-room-requires c κs = search needs
@@ -20,10 +20,8 @@ list-room-requires c κs = search needs
 returns-2 : tie.Need-returns-2
 unfolding roomFor
 returns-2 c =
-    let fixed-room = c .before .before .before .fixed-room in
-    let fixed = rw (fixed-room .ensures) at (le-ltb _ 5 (c .before .before .if1 .left)) in
-    rw fixed (c .list-room .ensures)
+    let fixed = rw (c .before .before .fixed-room .ensures) at (le-ltb _ 5 (c .before .if1 .left)) in
+    λ times. rw fixed (c .list-room .ensures times)
 
 pub room-for-spec : {M : Type 1} → statement M
-room-for-spec =
-    tie.close (tie.spec fixed-room-requires returns list-room-requires returns-2)
+room-for-spec = tie.close (tie.spec fixed-room-requires returns list-room-requires returns-2)

@@ -4,6 +4,7 @@ use mathlib.Core.Path.{_≡_, refl, sym, ap, _∙_}
 use Prim.Native.Nat.{_+_, _-_, _≤_}
 use native.Mathlib.Omega.{arith}
 use lib.ListN.{length, take}
+use denote.Ref.{now}
 use Rattle.lists.proofs.Laying.{laid-none, laid-length, laid-turn}
 use Rattle.events.specs.Events.{numbersOf, eventsLaid}
 use Rattle.watches.specs.Tables.{fixedTables, pmtTable}
@@ -25,8 +26,8 @@ loop-holds c = rw (tables-none _ _ _) (omega arith, omega arith, sym (laid-none 
 mul-late-row : tie.Need-mul-late-row Inv-loop μ-loop
 mul-late-row c = search needs
 
-array-read-late-row : tie.Need-array-read-late-row Inv-loop μ-loop
-array-read-late-row c = search needs
+shared-slice-read-late-row : tie.Need-shared-slice-read-late-row Inv-loop μ-loop
+shared-slice-read-late-row c = search needs
 
 limit-of-requires : tie.Need-limit-of-requires Inv-loop μ-loop
 limit-of-requires c κs = search needs
@@ -39,12 +40,11 @@ pid-of-requires c κs = search needs
 
 late-row-requires : tie.Need-late-row-requires Inv-loop μ-loop
 late-row-requires c κs =
-    let args = c .before .before .before .before .before .before .before .args in
-    let loop = c .before .before .before .before .before .loop in
-    let pre = c .before .before .before .before .before .before .before .pre in (
-      omega (arith, tables-most (args .p) (args .t) (loop .k) fixedTables (args .t5)),
-      rw (loop .inv .2, laid-length) (pre .1),
-      pre .2 (loop .k),
+    let start = c .before .before .before .before .before .before .before .before .before in
+    let loop = c .before .before .before .before .before .before .loop in (
+      omega (arith, tables-most (start .args .p) (start .args .t) (loop .k) fixedTables (now (start .args .since))),
+      rw (loop .inv .2, laid-length) (start .pre .1),
+      start .pre .3 (loop .k),
       rw (c .before .before .limit-of .ensures) (limit-small (loop .k)),
     )
 
@@ -56,10 +56,10 @@ loop-less c = search needs
 
 loop-again : tie.Need-loop-again Inv-loop μ-loop
 loop-again c =
-    let loop = c .before .before .before .before .before .before .before .before .loop in
+    let loop = c .before .before .before .before .before .before .before .before .before .loop in
     let e = rw (c .before .before .before .before .before .limit-of .ensures, c .before .before .before .before .fault-of .ensures, c .before .before .before .pid-of .ensures) at (c .before .before .late-row .ensures) in
     let w = laid-turn numbersOf 4 (λ e. refl) _ _ _ _ _ _ _ _ (loop .inv .1) (loop .inv .2) (e .0) (e .1) in
-    rw (tables-turn _ _ (loop .k) fixedTables (c .before .before .before .before .before .before .before .before .before .before .args .t5) pmtTable 0 (omega arith) (omega arith)) (omega arith, w .0, w .1)
+    rw (tables-turn _ _ (loop .k) fixedTables (now (c .before .before .before .before .before .before .before .before .before .before .before .before .args .since)) pmtTable 0 (omega arith) (omega arith)) (omega arith, w .0, w .1)
 
 same-length : tie.Need-same-length Inv-loop μ-loop
 same-length c = ap length (c .before .loop .inv .2) ∙ laid-length _ _ _ _ _
@@ -77,7 +77,7 @@ late-tables-spec =
     μ-loop
     loop-holds
     mul-late-row
-    array-read-late-row
+    shared-slice-read-late-row
     limit-of-requires
     fault-of-requires
     pid-of-requires

@@ -63,11 +63,8 @@ loop-again : tie.Need-loop-again Inv-loop μ-loop
 loop-again c =
     let loop = c .before .before .before .before .before .before .loop in
     let a = c .before .before .before .before .before .before .before .args in
-    let here = sym (c .before .before .before .entry-quiet .ensures) ∙ not-false _ (c .before .before .if1 .left) in (
-      omega arith,
-      length-set (loop .marks) _ _ ∙ loop .inv .1,
-      loop .inv .2 ∙ entries-on (a .t1) (a .count) (loop .k) (omega arith) (a .p) (a .t) (a .q) (loop .marks) (getD (a .t1) (loop .k) noEntry) (omega arith) refl here (c .if2 .left),
-    )
+    let here = sym (c .before .before .before .entry-quiet .ensures) ∙ not-false _ (c .before .before .if1 .left) in
+    (omega arith, length-set (loop .marks) _ _ ∙ loop .inv .1, loop .inv .2 ∙ entries-on (a .t1) (a .count) (loop .k) (omega arith) (a .p) (a .t) (a .q) (loop .marks) (getD (a .t1) (loop .k) noEntry) (omega arith) refl here (c .if2 .left))
 
 returns-3 : tie.Need-returns-3 Inv-loop μ-loop
 returns-3 c =

@@ -1,76 +1,50 @@
 -- `quiet::value/quiet_value` meets its contract. Assumes nothing.
 use borrow.Author.Needs.{needs}
-use mathlib.Core.Path.{refl, sym, _∙_}
-use native.Mathlib.Omega.{arith}
+use denote.Ref.{now}
+use mathlib.Core.Path.{_≡_, sym, ap, _∙_}
 use borrow.Author.Tests.{not-true, not-false}
-use Rattle.quiet.proofs.Turns.{packet-lengths}
+use Rattle.header.specs.declared.Header.{Header}
+use Rattle.header.specs.Header.{pidOf, headerOf}
+use Rattle.quiet.specs.Quiet.{stateQuiet, countQuiet}
+use Rattle.quiet.proofs.Turns.{still-loud, now-loud, still-quiet}
 use Rattle.quiet.proofs.value.quiet_value.Statement.{statement}
 use Rattle.quiet.proofs.value.quiet_value.Tie as tie
 
-memory-size-requires : tie.Need-memory-size-requires
-memory-size-requires c κs = search needs
-
-sizes-requires : tie.Need-sizes-requires
-sizes-requires c κs = search needs
-
-packet-quiet-requires : tie.Need-packet-quiet-requires
-packet-quiet-requires c κs = search needs
-
-same-length : tie.Need-same-length
-same-length c = search needs
+count-quiet-requires : tie.Need-count-quiet-requires
+count-quiet-requires c κs = search needs
 
 returns : tie.Need-returns
 returns c =
-    let sizes = c .before .before .before .before .sizes .ensures in
-    let loud = sym (c .before .before .packet-quiet .ensures .seen) ∙ not-true _ (c .if1 .taken) in
-    (rw loud, refl, omega (arith, sizes .1), omega (arith, sizes .2))
+    let start = c .before .before .before .before .before in
+    let packet = now (start .args .packet) in
+    let byte = start .args .byte in
+    still-loud packet byte (countQuiet packet byte) (stateQuiet (start .args .state) (now (start .args .memory)) (start .args .time) (pidOf packet)) (c .before .before .count-quiet .ensures) (not-true _ (c .if1 .taken))
 
 state-quiet-requires : tie.Need-state-quiet-requires
 state-quiet-requires c κs = search needs
 
-same-length-2 : tie.Need-same-length-2
-same-length-2 c = search needs
+loud-requires : tie.Need-loud-requires
+loud-requires c κs = search needs
 
 returns-2 : tie.Need-returns-2
+unfolding headerOf
 returns-2 c =
-    let sizes = c .before .before .before .before .before .before .before .sizes .ensures in
-    let glance = c .before .before .before .before .before .packet-quiet .ensures in
-    let seen = sym (glance .seen) ∙ not-false _ (c .before .before .before .if1 .left) in
-    (rw (seen, sym (glance .pid seen), sym (c .before .state-quiet .ensures) ∙ not-true _ (c .if2 .taken)), refl, omega (arith, sizes .1), omega (arith, sizes .2))
-
-cast-pid : tie.Need-cast-pid
-cast-pid c = search needs
-
-slice-write-counters : tie.Need-slice-write-counters
-slice-write-counters c =
-    let a = c .before .before .before .before .before .before .before .before .before .before .before .before .before .before .args in
-    let glance = c .before .before .before .before .before .before .packet-quiet .ensures in
-    let seen = sym (glance .seen) ∙ not-false _ (c .before .before .before .before .if1 .left) in
-    omega (arith, glance .small, packet-lengths (a .t) (a .packet .now) (a .counters .now) (a .room) seen .1)
-
-same-length-3 : tie.Need-same-length-3
-same-length-3 c = search needs
+    let start = c .before .before .before .before .before .before .before .before in
+    let packet = now (start .args .packet) in
+    let byte = start .args .byte in
+    let pid : start .args .h .pid ≡ pidOf packet = ap (λ (h : Header). h .pid) (start .pre .3) in
+    now-loud packet byte (countQuiet packet byte) (stateQuiet (start .args .state) (now (start .args .memory)) (start .args .time) (pidOf packet)) (c .loud .ensures) (rw (sym pid) (sym (c .before .before .state-quiet .ensures) ∙ not-true _ (c .before .if2 .taken)))
 
 returns-3 : tie.Need-returns-3
+unfolding headerOf
 returns-3 c =
-    let sizes = c .before .before .before .before .before .before .before .before .sizes .ensures in
-    let glance = c .before .before .before .before .before .before .packet-quiet .ensures in
-    let seen = sym (glance .seen) ∙ not-false _ (c .before .before .before .before .if1 .left) in
-    (rw (seen, sym (glance .pid seen), sym (c .before .before .state-quiet .ensures) ∙ not-false _ (c .before .if2 .left)), glance .table seen, omega (arith, sizes .1), omega (arith, sizes .2))
+    let start = c .before .before .before .before .before .before .before in
+    let packet = now (start .args .packet) in
+    let byte = start .args .byte in
+    let pid : start .args .h .pid ≡ pidOf packet = ap (λ (h : Header). h .pid) (start .pre .3) in
+    still-quiet packet byte (countQuiet packet byte) (stateQuiet (start .args .state) (now (start .args .memory)) (start .args .time) (pidOf packet)) (c .before .before .before .before .count-quiet .ensures) (rw (sym pid) (sym (c .before .state-quiet .ensures) ∙ not-false _ (c .if2 .left)))
 
 pub quiet-value-spec : {M : Type 1} → statement M
 quiet-value-spec =
     tie.close
-    (tie.spec
-    memory-size-requires
-    sizes-requires
-    packet-quiet-requires
-    same-length
-    returns
-    state-quiet-requires
-    same-length-2
-    returns-2
-    cast-pid
-    slice-write-counters
-    same-length-3
-    returns-3)
+    (tie.spec count-quiet-requires returns state-quiet-requires loud-requires returns-2 returns-3)

@@ -21,14 +21,7 @@ latest-quiet-requires c κs = search needs
 
 returns-2 : tie.Need-returns-2
 unfolding stateQuiet
-returns-2 c =
-    rw (
-      sym (c .before .before .before .sync-quiet .ensures) ∙ not-false _ (c .before .before .if1 .left),
-      sym (c .before .latest-quiet .ensures) ∙ not-true _ (c .if2 .taken),
-    )
-
-sizes-requires : tie.Need-sizes-requires
-sizes-requires c κs = search needs
+returns-2 c = rw (sym (c .before .before .before .sync-quiet .ensures) ∙ not-false _ (c .before .before .if1 .left), sym (c .before .latest-quiet .ensures) ∙ not-true _ (c .if2 .taken))
 
 slice-aggregate-rooms-quiet : tie.Need-slice-aggregate-rooms-quiet
 slice-aggregate-rooms-quiet c = search needs
@@ -38,12 +31,7 @@ rooms-quiet-requires c κs = search needs
 
 returns-3 : tie.Need-returns-3
 unfolding stateQuiet
-returns-3 c =
-    rw (
-      sym (c .before .before .before .before .before .before .before .before .before .sync-quiet .ensures) ∙ not-false _ (c .before .before .before .before .before .before .before .before .if1 .left),
-      sym (c .before .before .before .before .before .before .before .latest-quiet .ensures) ∙ not-false _ (c .before .before .before .before .before .before .if2 .left),
-      sym (c .before .rooms-quiet .ensures) ∙ not-true _ (c .if3 .taken),
-    )
+returns-3 c = rw (sym (c .before .before .before .before .before .before .before .before .sync-quiet .ensures) ∙ not-false _ (c .before .before .before .before .before .before .before .if1 .left), sym (c .before .before .before .before .before .before .latest-quiet .ensures) ∙ not-false _ (c .before .before .before .before .before .if2 .left), sym (c .before .rooms-quiet .ensures) ∙ not-true _ (c .if3 .taken))
 
 slice-aggregate-tables-quiet : tie.Need-slice-aggregate-tables-quiet
 slice-aggregate-tables-quiet c = search needs
@@ -53,29 +41,16 @@ tables-quiet-requires c κs = search needs
 
 returns-4 : tie.Need-returns-4
 unfolding stateQuiet
-returns-4 c =
-    rw (
-      sym (c .before .before .before .before .before .before .before .before .before .before .before .before .sync-quiet .ensures) ∙ not-false _ (c .before .before .before .before .before .before .before .before .before .before .before .if1 .left),
-      sym (c .before .before .before .before .before .before .before .before .before .before .latest-quiet .ensures) ∙ not-false _ (c .before .before .before .before .before .before .before .before .before .if2 .left),
-      sym (c .before .before .before .before .rooms-quiet .ensures) ∙ not-false _ (c .before .before .before .if3 .left),
-      sym (c .before .tables-quiet .ensures) ∙ not-true _ (c .if4 .taken),
-    )
+returns-4 c = rw (sym (c .before .before .before .before .before .before .before .before .before .before .before .sync-quiet .ensures) ∙ not-false _ (c .before .before .before .before .before .before .before .before .before .before .if1 .left), sym (c .before .before .before .before .before .before .before .before .before .latest-quiet .ensures) ∙ not-false _ (c .before .before .before .before .before .before .before .before .if2 .left), sym (c .before .before .before .before .rooms-quiet .ensures) ∙ not-false _ (c .before .before .before .if3 .left), sym (c .before .tables-quiet .ensures) ∙ not-true _ (c .if4 .taken))
 
 entries-quiet-requires : tie.Need-entries-quiet-requires
 entries-quiet-requires c κs =
-    let core = c .before .before .before .before .before .before .before .before .before .before .before .before .before .before .before .args .state .core in
-    leb-true (core .count) 16 (and-right (not (core .lost) && eqb (core .run) 0) (leb (core .count) 16) (sym (c .before .before .before .before .before .before .before .before .before .before .before .before .before .sync-quiet .ensures) ∙ not-false _ (c .before .before .before .before .before .before .before .before .before .before .before .before .if1 .left)))
+    let core = c .before .before .before .before .before .before .before .before .before .before .before .before .before .before .args .state .core in
+    leb-true (core .count) 16 (and-right (not (core .lost) && eqb (core .run) 0) (leb (core .count) 16) (sym (c .before .before .before .before .before .before .before .before .before .before .before .before .sync-quiet .ensures) ∙ not-false _ (c .before .before .before .before .before .before .before .before .before .before .before .if1 .left)))
 
 returns-5 : tie.Need-returns-5
 unfolding stateQuiet
-returns-5 c =
-    rw (
-      sym (c .before .before .before .before .before .before .before .before .before .before .before .before .before .before .sync-quiet .ensures) ∙ not-false _ (c .before .before .before .before .before .before .before .before .before .before .before .before .before .if1 .left),
-      sym (c .before .before .before .before .before .before .before .before .before .before .before .before .latest-quiet .ensures) ∙ not-false _ (c .before .before .before .before .before .before .before .before .before .before .before .if2 .left),
-      sym (c .before .before .before .before .before .before .rooms-quiet .ensures) ∙ not-false _ (c .before .before .before .before .before .if3 .left),
-      sym (c .before .before .before .tables-quiet .ensures) ∙ not-false _ (c .before .before .if4 .left),
-    )
-    (c .entries-quiet .ensures)
+returns-5 c = rw (sym (c .before .before .before .before .before .before .before .before .before .before .before .before .before .sync-quiet .ensures) ∙ not-false _ (c .before .before .before .before .before .before .before .before .before .before .before .before .if1 .left), sym (c .before .before .before .before .before .before .before .before .before .before .before .latest-quiet .ensures) ∙ not-false _ (c .before .before .before .before .before .before .before .before .before .before .if2 .left), sym (c .before .before .before .before .before .before .rooms-quiet .ensures) ∙ not-false _ (c .before .before .before .before .before .if3 .left), sym (c .before .before .before .tables-quiet .ensures) ∙ not-false _ (c .before .before .if4 .left)) (c .entries-quiet .ensures)
 
 pub state-quiet-spec : {M : Type 1} → statement M
 state-quiet-spec =
@@ -85,7 +60,6 @@ state-quiet-spec =
     returns
     latest-quiet-requires
     returns-2
-    sizes-requires
     slice-aggregate-rooms-quiet
     rooms-quiet-requires
     returns-3

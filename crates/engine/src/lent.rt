@@ -1,0 +1,202 @@
+// The calls on a state that is lent as two arrays: it is judged and moved where it stands. On a refusal nothing that was
+// lent is written, the arrays neither.
+use arrays::Reply;
+use header::Header;
+ghost use mathlib.Core.Path.{_≡_};
+ghost use Prim.Native.Nat.{ℕ, _+_, _<_, _≤_};
+ghost use lib.ListN.{length, getD};
+ghost use Rattle.events.specs.Events.{eventsLaid};
+ghost use Rattle.watches.specs.Tables.{noEntry, latestTime};
+ghost use Rattle.watches.specs.Late.{entriesLate};
+ghost use Rattle.header.specs.Header.{Seen};
+ghost use Rattle.sections.specs.Rooms.{memorySize};
+ghost use Rattle.programmes.specs.Listing.{mostListed};
+ghost use Rattle.calls.specs.Cores.{lateOf};
+ghost use Rattle.calls.specs.Calls.{packetCall, clockCall};
+ghost use Rattle.arrays.specs.Lent.{gapsIn, countIn, entriesIn, listedIn, coreIn, stateIn, Sized};
+ghost use Rattle.checks.specs.Ladders.{Right};
+ghost use Rattle.engine.specs.Numbers.{AllFit};
+ghost use Rattle.engine.specs.Lent.{PacketLaid, ClockLaid};
+
+fn bytes_in(s: &[u8]) -> usize
+    ensures { λ r. ⌜ r ≡ length (now (s .entry)) ⌝ }
+{
+    s.len()
+}
+
+fn numbers_in(s: &[u64]) -> usize
+    ensures { λ r. ⌜ r ≡ length (now (s .entry)) ⌝ }
+{
+    s.len()
+}
+
+// Section memory has its length by its type: a call of this shows it.
+pub(crate) fn memory_size(memory: &[u8; 24576]) -> usize
+    ensures { λ r. ⌜ (r ≡ memorySize) × (length (now (memory .entry)) ≡ memorySize) ⌝ }
+{
+    bytes_in(memory)
+}
+
+// So has the list of numbers: room for 96 events.
+fn numbers_size(numbers: &[u64; 384]) -> usize
+    ensures { λ r. ⌜ (r ≡ 384) × (length (now (numbers .entry)) ≡ 384) ⌝ }
+{
+    numbers_in(numbers)
+}
+
+// The late events of the listed programmes, in list order, laid from the place n on; the next place.
+fn late_entries(times: &[u64], words: &[u16], time: u64, numbers: &mut [u64], n: usize) -> usize
+    requires { ⌜ Sized (now times) (now words) × (n + 16 ≤ 96) × (384 ≤ length (now numbers)) × (countIn (now words) ≤ mostListed)
+        × ((k : ℕ) → k < countIn (now words) → getD (entriesIn (now times) (now words)) k noEntry .since ≤ latestTime) ⌝ }
+    ensures { λ r. ⌜ (r ≡ n + length (entriesLate (getD (now (times .entry)) 0 0) time (listedIn (now (times .entry)) (now (words .entry)))))
+        × (now (numbers .exit) ≡ eventsLaid (now (numbers .entry)) n (entriesLate (getD (now (times .entry)) 0 0) time (listedIn (now (times .entry)) (now (words .entry)))))
+        × ((k : ℕ) → k < countIn (now (words .entry)) → getD (entriesIn (now (times .entry)) (now (words .entry))) k noEntry .number < 65536) ⌝ }
+{
+    let latest = times[0];
+    let count = arrays::count_in(words);
+    let mut m = n;
+    let mut k: usize = 0;
+    while k < count {
+        let e = arrays::entry_at(times, words, k);
+        m = watches::late_entry(numbers, m, latest, time, e);
+        k += 1;
+    }
+    m
+}
+
+// The late events of a call, laid first; how many there are.
+fn judge_late(times: &[u64], words: &[u16], time: u64, numbers: &mut [u64]) -> usize
+    requires { ⌜ Sized (now times) (now words) × (384 ≤ length (now numbers)) × (countIn (now words) ≤ mostListed) × ((k : ℕ) → getD (gapsIn (now times)) k 0 ≤ latestTime)
+        × ((k : ℕ) → k < countIn (now words) → getD (entriesIn (now times) (now words)) k noEntry .since ≤ latestTime) ⌝ }
+    ensures { λ r. ⌜ (r ≡ length (lateOf (getD (now (times .entry)) 0 0) time (coreIn (now (times .entry)) (now (words .entry)))))
+        × (now (numbers .exit) ≡ eventsLaid (now (numbers .entry)) 0 (lateOf (getD (now (times .entry)) 0 0) time (coreIn (now (times .entry)) (now (words .entry)))))
+        × (r ≤ 21) × AllFit (lateOf (getD (now (times .entry)) 0 0) time (coreIn (now (times .entry)) (now (words .entry)))) ⌝ }
+{
+    let latest = times[0];
+    let next = watches::late_tables(numbers, 0, latest, time, arrays::gaps_of(times));
+    late_entries(times, words, time, numbers, next)
+}
+
+// A packet call that refusals 1 to 4 pass, made in all its steps: the late events, then those of the packet.
+pub(crate) fn loud_packet(
+    times: &mut [u64; 22],
+    words: &mut [u16; 56],
+    time: u64,
+    packet: &[u8],
+    h: Header,
+    byte: u8,
+    counters: &mut [u8],
+    memory: &mut [u8; 24576],
+    room: usize,
+    numbers: &mut [u64; 384],
+) -> Reply
+    requires { ⌜ Right time (now packet) (now counters) room × Seen (now packet) (now counters) h byte × (h .pid < 8192) ⌝ }
+    ensures { λ r. ⌜ PacketLaid (packetCall (stateIn (now (times .entry)) (now (words .entry))) time (now (packet .entry)) (now (counters .entry)) (now (memory .entry)) room)
+        r (now (times .entry)) (now (times .exit)) (now (words .entry)) (now (words .exit)) (now (counters .exit)) (now (memory .exit)) (now (numbers .entry)) (now (numbers .exit)) ⌝ }
+{
+    let t = arrays::time_count(times);
+    let w = arrays::word_count(words);
+    let size = memory_size(memory);
+    let places = numbers_size(numbers);
+    let refusal = checks::state_refusal(times, words, time, memory, byte);
+    if refusal != 0 {
+        return Reply {
+            refusal: refusal,
+            n: 0,
+        };
+    }
+    let late = judge_late(times, words, time, numbers);
+    let n = steps::judge_packet(
+        times,
+        words,
+        time,
+        packet,
+        h,
+        byte,
+        counters,
+        memory,
+        numbers,
+        late,
+    );
+    times[0] = time;
+    Reply { refusal: 0, n: n }
+}
+
+// A packet call, for an event list of `room` records. Header and table byte are read once. Most calls are quiet, and are
+// then two stores.
+pub fn packet_in(
+    times: &mut [u64; 22],
+    words: &mut [u16; 56],
+    time: u64,
+    packet: &[u8],
+    counters: &mut [u8],
+    memory: &mut [u8; 24576],
+    room: usize,
+    numbers: &mut [u64; 384],
+) -> Reply
+    ensures { λ r. ⌜ PacketLaid (packetCall (stateIn (now (times .entry)) (now (words .entry))) time (now (packet .entry)) (now (counters .entry)) (now (memory .entry)) room)
+        r (now (times .entry)) (now (times .exit)) (now (words .entry)) (now (words .exit)) (now (counters .exit)) (now (memory .exit)) (now (numbers .entry)) (now (numbers .exit)) ⌝ }
+{
+    let t = arrays::time_count(times);
+    let w = arrays::word_count(words);
+    let size = memory_size(memory);
+    let refusal = checks::sizes_refusal(time, packet, counters, room);
+    if refusal != 0 {
+        return Reply {
+            refusal: refusal,
+            n: 0,
+        };
+    }
+    let h = header::read(packet);
+    let pid = h.pid as usize;
+    let byte = counters[pid];
+    let g = quiet::quiet_packet(times, words, memory, time, packet, h, byte);
+    if g.quiet {
+        counters[pid] = g.byte;
+        times[0] = time;
+        return Reply { refusal: 0, n: 0 };
+    }
+    loud_packet(
+        times,
+        words,
+        time,
+        packet,
+        h,
+        byte,
+        counters,
+        memory,
+        room,
+        numbers,
+    )
+}
+
+// A clock call, for an event list of `room` records: the late events alone.
+pub fn clock_in(
+    times: &mut [u64; 22],
+    words: &mut [u16; 56],
+    time: u64,
+    memory: &[u8; 24576],
+    room: usize,
+    numbers: &mut [u64; 384],
+) -> Reply
+    ensures { λ r. ⌜ ClockLaid (clockCall (stateIn (now (times .entry)) (now (words .entry))) time (now (memory .entry)) room)
+        r (now (times .entry)) (now (times .exit)) (now (words .entry)) (now (words .exit)) (now (numbers .entry)) (now (numbers .exit)) ⌝ }
+{
+    let t = arrays::time_count(times);
+    let w = arrays::word_count(words);
+    let size = memory_size(memory);
+    let places = numbers_size(numbers);
+    let refusal = checks::clock_refusal(times, words, time, memory, room);
+    if refusal != 0 {
+        return Reply {
+            refusal: refusal,
+            n: 0,
+        };
+    }
+    let late = judge_late(times, words, time, numbers);
+    arrays::settle(times, words, time);
+    Reply {
+        refusal: 0,
+        n: late,
+    }
+}
