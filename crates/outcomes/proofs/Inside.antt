@@ -36,6 +36,7 @@ use Rattle.programmes.proofs.read_list.Reads as read-list
 use Rattle.programmes.proofs.none_listed.Reads as none-listed
 use Rattle.programmes.proofs.move_sections.Reads as move-sections
 use Rattle.payloads.proofs.take_payload.Reads as take-payload
+use Rattle.checks.proofs.none_half.Reads as none-half
 use Rattle.checks.proofs.rooms_sound.Reads as rooms-sound
 use Rattle.checks.proofs.open_refusal.Reads as open-refusal
 use Rattle.checks.proofs.sizes_refusal.Reads as sizes-refusal
@@ -123,6 +124,7 @@ pub record NoSecondOutcomeInside : Type 0 where
   -- times, words, memory, numbers
   pub payloads-take-payload : (κs : _)
       → OneOutcome (take-payload.Post κs) (λ r. r) (λ s. now (s .0) ∷ now (s .1 .0) ∷ now (s .1 .1 .0) ∷ now (s .1 .1 .1 .1 .1 .1 .1 .1 .0) ∷ [])
+  pub checks-none-half : (κs : _) → OneAnswer (none-half.Post κs) (λ r. r)
   pub checks-rooms-sound : (κs : _) → OneAnswer (rooms-sound.Post κs) (λ r. r)
   pub checks-open-refusal : (κs : _) → OneAnswer (open-refusal.Post κs) (λ r. r)
   pub checks-sizes-refusal : (κs : _) → OneAnswer (sizes-refusal.Post κs) (λ r. r)
@@ -223,6 +225,7 @@ no-second-outcome-inside =
             places-4 (latest-alike _ _ _ _ _ same (p .1 .0 .times) (q .1 .0 .times)) (sync-alike _ _ _ _ _ same (p .1 .0 .words) (q .1 .0 .words))
                 (both (p .0 .memory) (q .0 .memory)) (both (p .0 .laid) (q .0 .laid)),
           );
+      checks-none-half = λ κs a r r′ s s′ p q. both p q;
       checks-rooms-sound = λ κs a r r′ s s′ p q. both p q;
       checks-open-refusal = λ κs a r r′ s s′ p q. both p q;
       checks-sizes-refusal = λ κs a r r′ s s′ p q. both p q;
