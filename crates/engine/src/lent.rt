@@ -3,12 +3,14 @@
 use arrays::Reply;
 use header::Header;
 ghost use mathlib.Core.Path.{_≡_};
+ghost use mathlib.Core.Bool.{_&&_};
+ghost use lib.Dec.{eqb};
 ghost use Prim.Native.Nat.{ℕ, _+_, _<_, _≤_};
 ghost use lib.ListN.{length, getD};
 ghost use Rattle.events.specs.Events.{eventsLaid};
 ghost use Rattle.watches.specs.Tables.{noEntry, latestTime};
 ghost use Rattle.watches.specs.Late.{entriesLate};
-ghost use Rattle.header.specs.Header.{Seen};
+ghost use Rattle.header.specs.Header.{packetSize, rightSync, Seen};
 ghost use Rattle.sections.specs.Rooms.{memorySize};
 ghost use Rattle.programmes.specs.Listing.{mostListed};
 ghost use Rattle.calls.specs.Cores.{lateOf};
@@ -17,6 +19,10 @@ ghost use Rattle.arrays.specs.Lent.{gapsIn, countIn, entriesIn, listedIn, coreI
 ghost use Rattle.checks.specs.Ladders.{Right};
 ghost use Rattle.engine.specs.Numbers.{AllFit};
 ghost use Rattle.engine.specs.Lent.{PacketLaid, ClockLaid};
+
+const PACKET_SIZE: usize = 188;
+
+const SYNC_BYTE: u8 = 0x47;
 
 fn bytes_in(s: &[u8]) -> usize
     ensures { λ r. ⌜ r ≡ length (now (s .entry)) ⌝ }
@@ -122,9 +128,8 @@ pub(crate) fn loud_packet(
     Reply { refusal: 0, n: n }
 }
 
-// A packet call, for an event list of `room` records. Header and table byte are read once. Most calls are quiet, and are
-// then two stores.
-pub fn packet_in(
+// A packet call, mostly a quiet one, which is two stores. Header and table byte are read once.
+fn synced_packet(
     times: &mut [u64; 22],
     words: &mut [u16; 56],
     time: u64,
@@ -168,6 +173,74 @@ pub fn packet_in(
         room,
         numbers,
     )
+}
+
+// A packet call that is not quiet, made in all its steps.
+fn other_packet(
+    times: &mut [u64; 22],
+    words: &mut [u16; 56],
+    time: u64,
+    packet: &[u8],
+    counters: &mut [u8],
+    memory: &mut [u8; 24576],
+    room: usize,
+    numbers: &mut [u64; 384],
+) -> Reply
+    ensures { λ r. ⌜ PacketLaid (packetCall (stateIn (now (times .entry)) (now (words .entry))) time (now (packet .entry)) (now (counters .entry)) (now (memory .entry)) room)
+        r (now (times .entry)) (now (times .exit)) (now (words .entry)) (now (words .exit)) (now (counters .exit)) (now (memory .exit)) (now (numbers .entry)) (now (numbers .exit)) ⌝ }
+{
+    let number = checks::sizes_refusal(time, packet, counters, room);
+    if number != 0 {
+        return Reply {
+            refusal: number,
+            n: 0,
+        };
+    }
+    let h = header::read(packet);
+    let byte = counters[h.pid as usize];
+    loud_packet(
+        times,
+        words,
+        time,
+        packet,
+        h,
+        byte,
+        counters,
+        memory,
+        room,
+        numbers,
+    )
+}
+
+// Whether a packet is whole and begins with the sync byte.
+fn in_step(packet: &[u8]) -> bool
+    ensures { λ r. ⌜ r ≡ (eqb (length (now (packet .entry))) packetSize && rightSync (now (packet .entry))) ⌝ }
+{
+    if packet.len() != PACKET_SIZE {
+        return false;
+    }
+    packet[0] == SYNC_BYTE
+}
+
+// A packet call, for an event list of `room` records. The packet's first byte is looked at before all else: so the packet is
+// on its way from memory while the rest of the call is judged. A call without a right one is not quiet.
+pub fn packet_in(
+    times: &mut [u64; 22],
+    words: &mut [u16; 56],
+    time: u64,
+    packet: &[u8],
+    counters: &mut [u8],
+    memory: &mut [u8; 24576],
+    room: usize,
+    numbers: &mut [u64; 384],
+) -> Reply
+    ensures { λ r. ⌜ PacketLaid (packetCall (stateIn (now (times .entry)) (now (words .entry))) time (now (packet .entry)) (now (counters .entry)) (now (memory .entry)) room)
+        r (now (times .entry)) (now (times .exit)) (now (words .entry)) (now (words .exit)) (now (counters .exit)) (now (memory .exit)) (now (numbers .entry)) (now (numbers .exit)) ⌝ }
+{
+    if in_step(packet) {
+        return synced_packet(times, words, time, packet, counters, memory, room, numbers);
+    }
+    other_packet(times, words, time, packet, counters, memory, room, numbers)
 }
 
 // A clock call, for an event list of `room` records: the late events alone.

@@ -1,4 +1,4 @@
--- `engine::lent/packet_in` meets its contract. Assumes nothing.
+-- `engine::lent/synced_packet` meets its contract. Assumes nothing.
 use borrow.Author.Needs.{needs}
 use native.Mathlib.Omega.{arith}
 use denote.Ref.{now}
@@ -13,8 +13,8 @@ use Rattle.arrays.specs.Lent.{stateIn, Sized}
 use Rattle.engine.proofs.Ends.{packet-refused, packet-quiet}
 use Rattle.quiet.specs.Quiet.{quietCall, quietByte}
 use Rattle.quiet.proofs.Turns.{told-quiet}
-use Rattle.engine.proofs.lent.packet_in.Statement.{statement}
-use Rattle.engine.proofs.lent.packet_in.Tie as tie
+use Rattle.engine.proofs.lent.synced_packet.Statement.{statement}
+use Rattle.engine.proofs.lent.synced_packet.Tie as tie
 
 time-count-requires : tie.Need-time-count-requires
 time-count-requires c κs = search needs
@@ -125,8 +125,8 @@ same-length-3 c = search needs
 returns-3 : tie.Need-returns-3
 returns-3 c = search needs
 
-pub packet-in-spec : {M : Type 1} → statement M
-packet-in-spec =
+pub synced-packet-spec : {M : Type 1} → statement M
+synced-packet-spec =
     tie.close
     (tie.spec
     time-count-requires
