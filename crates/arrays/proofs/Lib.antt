@@ -6,3 +6,4 @@ pub mod Stores
 pub mod Same
 pub mod Packed
 pub mod Kept
+pub mod Examples

@@ -21,7 +21,7 @@ use Rattle.programmes.specs.Places.{halfAt}
 use Rattle.calls.specs.declared.State.{State}
 use Rattle.calls.specs.Cores.{listed}
 use Rattle.calls.specs.Sound.{greatestPid, timeSound, timesSound, numberAmong, entrySound, entriesSound, runSound, roomSound, roomsFrom, roomsSound, stateSound, byteSound}
-use Rattle.calls.specs.Calls.{tableSize, leastRoom, openRefusal, packetRefusal, clockRefusal, refusedWith, acceptedPacket, acceptedClock, packetCall, clockCall}
+use Rattle.calls.specs.Calls.{Result, tableSize, leastRoom, openRefusal, packetRefusal, clockRefusal, refusedWith, acceptedPacket, acceptedClock, packetCall, clockCall}
 
 -- A RUNG that is passed on the way to 0
 rung-right : (b : Bool) (n next : ℕ) → cond b next (suc n) ≡ 0 → (b ≡ true) × (next ≡ 0)
@@ -145,6 +145,22 @@ module _ (s : State) (t : ℕ) (m : List ℕ) (room : ℕ) where
   pub clock-call-refused : (clockRefusal s t m room ≡ 0 → ⊥) → clockCall s t m room ≡ refusedWith (clockRefusal s t m room) s [] m
   unfolding clockCall
   clock-call-refused e = rw (ne-eqb (clockRefusal s t m room) 0 e)
+
+-- THE NUMBER that a call answers is its refusal
+answered : (n : ℕ) (s : State) (counters m : List ℕ) (x : Result) → x .refusal ≡ 0 → cond (eqb n 0) x (refusedWith n s counters m) .refusal ≡ n
+answered n s counters m x e = go (eqb n 0) refl
+  where
+    go : (b : Bool) → eqb n 0 ≡ b → cond b x (refusedWith n s counters m) .refusal ≡ n
+    go true h = e ∙ sym (eqb-true n 0 h)
+    go false h = refl
+
+pub packet-number : (s : State) (t : ℕ) (p counters m : List ℕ) (room : ℕ) → packetCall s t p counters m room .refusal ≡ packetRefusal s t p counters m room
+unfolding packetCall
+packet-number s t p counters m room = answered (packetRefusal s t p counters m room) s counters m (acceptedPacket s t p counters m) refl
+
+pub clock-number : (s : State) (t : ℕ) (m : List ℕ) (room : ℕ) → clockCall s t m room .refusal ≡ clockRefusal s t m room
+unfolding clockCall
+clock-number s t m room = answered (clockRefusal s t m room) s [] m (acceptedClock s t [] m) refl
 
 -- A SOUND STATE, part by part
 pub record SoundEntry (e : Entry) : Type 0 where

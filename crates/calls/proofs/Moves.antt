@@ -4,13 +4,14 @@
 --   Moves t p P      == each move of a packet at t keeps P: step 1, the table byte, a dropped room, a payload built, and a good section's three
 --   packet-moves     == then steps 1 to 5 keep P
 --   sync-moves       == step 1 keeps what a new sync run keeps, and the loss of sync
-use mathlib.Core.Path.{_≡_, refl}
+use mathlib.Core.Path.{_≡_, refl, ap}
 use mathlib.Core.Bool.{Bool, true, false, cond, _||_}
 use mathlib.Core.List.{List, [], _∷_}
 use Prim.Native.Nat.{ℕ, _+_, _≤_, _<_}
 use native.Mathlib.Omega.{arith}
 use lib.Dec.{ltb, eqb}
-use lib.ListN.{set}
+use lib.ListN.{length, set}
+use lib.Seq.{set-out}
 use borrow.Author.Tests.{eqb-true, eqb-false, ltb-true}
 use Rattle.lists.proofs.Tests.{cond-either}
 use Rattle.header.specs.Header.{rightSync, errorBit, unitStart, pidOf, scrambledBits, controlOf, payloadOf}
@@ -21,9 +22,13 @@ use Rattle.sections.specs.Building.{Finished}
 use Rattle.sections.specs.Outcomes.{isPmtRoom, outcomeOf}
 use Rattle.programmes.specs.Listing.{nullPid}
 use Rattle.calls.specs.declared.Core.{Core}
-use Rattle.calls.specs.Cores.{Held, roomFor, droppedRoom}
+use Rattle.calls.specs.Cores.{Held, withHalf, roomFor, droppedRoom}
 use Rattle.calls.specs.Sync.{Synced, withSync, lostNow, inSync, whileLost, syncedOf}
 use Rattle.calls.specs.Steps.{Step, arrivedTable, arrivedProgramme, relisted, arrivedIn, bytesOf, absorbedBy, absorbed, absorbedAll, builtIn, jobOf, sectionsTaken, payloadTaken, counted, step5, step4, step3, step2, step1}
+
+-- WHERE NOTHING IS BUILT, nothing is dropped
+pub dropped-nowhere : (r : ℕ) (h : Held) → length (h .core .half) ≤ r → droppedRoom r h ≡ h
+dropped-nowhere r h l = ap (λ (ns : List ℕ). record { core = withHalf ns (h .core); memory = h .memory }) (set-out (h .core .half) r 0 l)
 
 -- A SECTION of a payload
 pub data Among (f : Finished) : List Finished → Type 0 where

@@ -1,34 +1,16 @@
 -- What an accepted call of a log leaves for the one after it. Assumes nothing.
-use mathlib.Core.Path.{_≡_, refl, sym, ap, _∙_}
-use mathlib.Core.Bool.{Bool, true, false, cond}
+use mathlib.Core.Path.{_≡_, sym, ap, _∙_}
+use mathlib.Core.Bool.{true, cond}
 use mathlib.Core.List.{List, []}
 use Prim.Native.Nat.{ℕ, _≤_}
-use lib.Dec.{eqb}
-use borrow.Author.Tests.{eqb-true, eq-eqb}
+use borrow.Author.Tests.{eq-eqb}
 use lib.ListN.{replicate}
 use Rattle.lateness.specs.Logs.{Call, clock, packet, timeOf}
-use Rattle.calls.specs.declared.State.{State}
 use Rattle.calls.specs.Cores.{listed, openedState}
 use Rattle.calls.specs.Sound.{stateSound, entriesSound}
-use Rattle.calls.specs.Calls.{Result, tableSize, openRefusal, packetRefusal, clockRefusal, refusedWith, acceptedPacket, acceptedClock, packetCall, clockCall}
-use Rattle.calls.proofs.Accepted.{clock-accepted, packet-accepted, packet-call-accepted, clock-call-accepted, sound-parts, entries-whole}
+use Rattle.calls.specs.Calls.{Result, tableSize, openRefusal, acceptedPacket, acceptedClock}
+use Rattle.calls.proofs.Accepted.{clock-accepted, packet-accepted, packet-call-accepted, clock-call-accepted, packet-number, clock-number, sound-parts, entries-whole}
 use Rattle.demands.specs.Runs.{Given, callOf, afterCall, opening}
-
--- THE NUMBER that a call answers is its refusal
-answered : (n : ℕ) (s : State) (counters m : List ℕ) (x : Result) → x .refusal ≡ 0 → cond (eqb n 0) x (refusedWith n s counters m) .refusal ≡ n
-answered n s counters m x e = go (eqb n 0) refl
-  where
-    go : (b : Bool) → eqb n 0 ≡ b → cond b x (refusedWith n s counters m) .refusal ≡ n
-    go true h = e ∙ sym (eqb-true n 0 h)
-    go false h = refl
-
-pub packet-number : (s : State) (t : ℕ) (p counters m : List ℕ) (room : ℕ) → packetCall s t p counters m room .refusal ≡ packetRefusal s t p counters m room
-unfolding packetCall
-packet-number s t p counters m room = answered (packetRefusal s t p counters m room) s counters m (acceptedPacket s t p counters m) refl
-
-pub clock-number : (s : State) (t : ℕ) (m : List ℕ) (room : ℕ) → clockCall s t m room .refusal ≡ clockRefusal s t m room
-unfolding clockCall
-clock-number s t m room = answered (clockRefusal s t m room) s [] m (acceptedClock s t [] m) refl
 
 -- AN ACCEPTED CALL of a log, as its definition says
 abbrev pub acceptedOf : Given → Call (List ℕ) → Result

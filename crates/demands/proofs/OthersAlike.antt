@@ -20,9 +20,9 @@ use Rattle.sections.specs.Rooms.{memorySize, roomCount, noRoom, roomOfPlace, ha
 use Rattle.programmes.specs.declared.Listed.{Listed}
 use Rattle.programmes.specs.Places.{placeOf}
 use Rattle.calls.specs.declared.Core.{Core}
-use Rattle.calls.specs.Cores.{listed, Held, fixedRoom, roomFor, withHalf, droppedRoom}
+use Rattle.calls.specs.Cores.{listed, Held, fixedRoom, roomFor, droppedRoom}
 use Rattle.calls.specs.Steps.{touched, arrivedProgramme, listOn}
-use Rattle.calls.proofs.Moves.{tableArrived, programmeArrived}
+use Rattle.calls.proofs.Moves.{dropped-nowhere, tableArrived, programmeArrived}
 use Rattle.demands.proofs.OthersRooms.{GoesOn, empty-goes-on}
 use Rattle.demands.proofs.OthersLists.{Timely, timely-touched, Alikes, alikes-itself, alikes-sym, alikes-trans, alikes-length, alikes-place, alikes-listed, alikes-touched, touched-other, AlikeListed, alike-by, Filled}
 use Rattle.demands.proofs.Lists.{take-front}
@@ -37,10 +37,6 @@ rooms-by c d q e l =
 
 pub rooms-same : (c d : Core) → listed c ≡ listed d → (q : ℕ) → roomFor c q ≡ roomFor d q
 rooms-same c d e q = rooms-by c d q (ap (placeOf q) e) (ap length e)
-
--- where nothing is built, nothing is dropped
-pub dropped-nowhere : (r : ℕ) (h : Held) → Shaped h → roomCount ≤ r → droppedRoom r h ≡ h
-dropped-nowhere r h s l = ap (λ ns. record { core = withHalf ns (h .core); memory = h .memory }) (set-out (h .core .half) r 0 (omega (arith, s .half)))
 
 -- A GOOD SECTION: of a fixed table, of a programme
 pub table-shaped : (t r : ℕ) (h : Held) → t ≤ latestTime → Shaped h → Shaped (tableArrived t r h)
@@ -152,7 +148,7 @@ module _ (mine : ℕ → Bool) where
       where
         go : Order (roomFor (h .core) q) roomCount → Alike (droppedRoom (roomFor (h .core) q) h) h
         go (below l) = other-changed 0 (h .memory) l (empty-goes-on (roomFor (h .core) q) l (h .memory)) (s .memory) (λ p n g apart fits. refl)
-        go (from l) = subst (λ (z : Held). Alike z h) (sym (dropped-nowhere (roomFor (h .core) q) h s l)) (alike-itself h s)
+        go (from l) = subst (λ (z : Held). Alike z h) (sym (dropped-nowhere (roomFor (h .core) q) h (omega (arith, s .half)))) (alike-itself h s)
 
     pub other-table : (t r : ℕ) → t ≤ latestTime → (r < length fixedTables → tableOf r .pid ≡ q) → Alike (tableArrived t r h) h
     other-table t r early own =
@@ -238,8 +234,8 @@ module _ (mine : ℕ → Bool) where
             own-changed q 0 0 (h .memory) (k .memory) own (roomFor (h .core) q) refl l (empty-goes-on (roomFor (h .core) q) l (h .memory)) (empty-goes-on (roomFor (h .core) q) l (k .memory)) (a .left .memory) (a .right .memory)
             (λ p n g apart fits. refl) (λ p n g apart fits. refl) refl
         go (from l) =
-            subst (λ (z : Held). Alike z (droppedRoom (roomFor (h .core) q) k)) (sym (dropped-nowhere (roomFor (h .core) q) h (a .left) l))
-            (subst (λ (z : Held). Alike h z) (sym (dropped-nowhere (roomFor (h .core) q) k (a .right) l)) a)
+            subst (λ (z : Held). Alike z (droppedRoom (roomFor (h .core) q) k)) (sym (dropped-nowhere (roomFor (h .core) q) h (omega (arith, a .left .half))))
+            (subst (λ (z : Held). Alike h z) (sym (dropped-nowhere (roomFor (h .core) q) k (omega (arith, a .right .half)))) a)
 
     pub own-table : (t r : ℕ) → t ≤ latestTime → Alike (tableArrived t r h) (tableArrived t r k)
     own-table t r early =

@@ -19,9 +19,9 @@ use Rattle.calls.specs.Cores.{listed, Held, fixedRoom}
 use Rattle.calls.specs.Steps.{step1}
 use Rattle.calls.specs.Sound.{numberAmong, entrySound, entriesSound, stateSound, byteSound}
 use Rattle.calls.specs.Calls.{heldOf, leastRoom}
-use Rattle.calls.proofs.Accepted.{ClockAccepted, clock-accepted, accepted-clock, PacketAccepted, packet-accepted, accepted-packet, SoundEntry, entry-parts, entry-whole, entries-parts, entries-whole, sound-parts, sound-whole}
+use Rattle.calls.proofs.Accepted.{ClockAccepted, clock-accepted, accepted-clock, PacketAccepted, packet-accepted, accepted-packet, packet-number, clock-number, SoundEntry, entry-parts, entry-whole, entries-parts, entries-whole, sound-parts, sound-whole}
 use Rattle.demands.specs.Runs.{Given, callOf}
-use Rattle.demands.proofs.Accepted.{packet-number, clock-number, acceptedAfter}
+use Rattle.demands.proofs.Accepted.{acceptedAfter}
 use Rattle.demands.proofs.OthersLists.{Timely, Alikes, none, next}
 use Rattle.demands.proofs.OthersPids.{Shaped, IsFixed}
 use Rattle.demands.proofs.OthersAlike.{Closed}

@@ -19,7 +19,7 @@ use Rattle.sections.proofs.Rooms.{place-top}
 use Rattle.programmes.specs.declared.Listed.{Listed}
 use Rattle.programmes.specs.Places.{placeOf, isListed, pidAt, isFirst, halfAt, movedHalf, movedFrom, movedHalves}
 use Rattle.programmes.proofs.Moves.{halves-at, halves-length}
-use Rattle.programmes.proofs.Moved.{moving, places-length, places-others, places-here}
+use Rattle.programmes.proofs.Moved.{moving, moved-length, places-others, places-here}
 use Rattle.calls.specs.Cores.{listed, Held, fixedRoom}
 use Rattle.calls.specs.Steps.{listedBy, listOn}
 use Rattle.demands.proofs.OthersLists.{Filled, filled-starts}
@@ -104,7 +104,7 @@ module _ (l : Listed) (h : Held) (s : Shaped h) (f : Filled l) where
       record {
         inSync = s .inSync;
         run = s .run;
-        memory = places-length old new halves (h .memory) 0 16 (h .memory) ∙ s .memory;
+        memory = moved-length old new (h .core .half) (h .memory) ∙ s .memory;
         half = halves-length old new (h .core .half) (s .half);
         since = s .since;
         entries = f .places;

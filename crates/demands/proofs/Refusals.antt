@@ -9,10 +9,9 @@ use Rattle.lateness.specs.Gaps.{keep}
 use Rattle.lateness.specs.Logs.{Call, clock, packet}
 use Rattle.calls.specs.Cores.{openedState}
 use Rattle.calls.specs.Calls.{Result, openRefusal, openState, openTable, answerOf}
-use Rattle.calls.proofs.Accepted.{packet-call-refused, clock-call-refused}
+use Rattle.calls.proofs.Accepted.{packet-call-refused, clock-call-refused, packet-number, clock-number}
 use Rattle.demands.specs.Runs.{Given, callOf, afterCall, results, AllAccepted}
 use Rattle.demands.specs.Refused.{Refused, HandedBack, afterCalls, eventLog, taken}
-use Rattle.demands.proofs.Accepted.{packet-number, clock-number}
 
 -- A REFUSED CALL hands back what it was given
 pub demand-1 : (room : ℕ) (g : Given) (c : Call (List ℕ)) → Refused room g c → HandedBack room g c

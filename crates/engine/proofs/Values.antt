@@ -1,19 +1,18 @@
 -- The calls with the state by value: what is answered where the call is refused, where it is quiet, and where it was made on the arrays that the state was laid
 -- into. Assumes nothing.
 use mathlib.Core.Path.{_≡_, refl, sym, ap, ap₂, _∙_}
-use mathlib.Core.Bool.{Bool, true, false, cond}
+use mathlib.Core.Bool.{Bool, true, cond}
 use mathlib.Core.List.{List, []}
 use Prim.Native.Nat.{ℕ, _≤_}
 use native.Mathlib.Omega.{arith}
-use lib.Dec.{eqb}
 use lib.ListN.{length, getD}
-use borrow.Author.Tests.{eqb-true, eq-eqb}
+use borrow.Author.Tests.{eq-eqb}
 use Rattle.header.specs.Header.{pidOf}
 use Rattle.sections.specs.Rooms.{roomCount}
 use Rattle.calls.specs.declared.State.{State}
 use Rattle.calls.specs.declared.Answer.{Answer}
-use Rattle.calls.specs.Calls.{Result, packetRefusal, clockRefusal, refusedWith, acceptedPacket, acceptedClock, packetCall, clockCall, answerOf}
-use Rattle.calls.proofs.Accepted.{packet-call-refused, clock-call-refused}
+use Rattle.calls.specs.Calls.{Result, packetRefusal, clockRefusal, packetCall, clockCall, answerOf}
+use Rattle.calls.proofs.Accepted.{packet-call-refused, clock-call-refused, packet-number, clock-number}
 use Rattle.arrays.specs.declared.Reply.{Reply}
 use Rattle.arrays.specs.Lent.{timesOf, wordsOf, stateIn, Typed}
 use Rattle.arrays.specs.Replies.{timesAfter, wordsAfter}
@@ -56,16 +55,6 @@ PacketEnd s t p counters m room a table left before after =
     × (left ≡ packetCall s t p counters m room .memory)
     × Numbered before after (packetCall s t p counters m room .events)
 
--- its number is that of the ladder
-packet-number : (s : State) (t : ℕ) (p counters m : List ℕ) (room : ℕ) → packetCall s t p counters m room .refusal ≡ packetRefusal s t p counters m room
-unfolding packetCall
-packet-number s t p counters m room = go (eqb (packetRefusal s t p counters m room) 0) refl
-  where
-    go : (b : Bool) → eqb (packetRefusal s t p counters m room) 0 ≡ b
-        → cond b (acceptedPacket s t p counters m) (refusedWith (packetRefusal s t p counters m room) s counters m) .refusal ≡ packetRefusal s t p counters m room
-    go true e = sym (eqb-true (packetRefusal s t p counters m room) 0 e)
-    go false e = refl
-
 module _ (s : State) (t : ℕ) (p counters m : List ℕ) (room : ℕ) (before : List ℕ) where
   pub packet-refused-at : (number : ℕ) → number ≡ packetRefusal s t p counters m room → (number ≡ 0 → ⊥)
       → PacketEnd s t p counters m room (refused number s) counters m before before
@@ -107,15 +96,6 @@ module _ (s : State) (t : ℕ) (p counters m : List ℕ) (room : ℕ) (before : 
 -- A CLOCK CALL: its answer and the numbers
 abbrev pub ClockEnd : State → ℕ → List ℕ → ℕ → Answer → List ℕ → List ℕ → Type 0
 ClockEnd s t m room a before after = (a ≡ answerOf (clockCall s t m room)) × Numbered before after (clockCall s t m room .events)
-
-clock-number : (s : State) (t : ℕ) (m : List ℕ) (room : ℕ) → clockCall s t m room .refusal ≡ clockRefusal s t m room
-unfolding clockCall
-clock-number s t m room = go (eqb (clockRefusal s t m room) 0) refl
-  where
-    go : (b : Bool) → eqb (clockRefusal s t m room) 0 ≡ b
-        → cond b (acceptedClock s t [] m) (refusedWith (clockRefusal s t m room) s [] m) .refusal ≡ clockRefusal s t m room
-    go true e = sym (eqb-true (clockRefusal s t m room) 0 e)
-    go false e = refl
 
 module _ (s : State) (t : ℕ) (m : List ℕ) (room : ℕ) (before : List ℕ) (z : Typed s) {r : Reply} {timesLeft wordsLeft after : List ℕ}
     (laid : ClockLaid (clockCall (packed s) t m room) r (timesOf s) timesLeft (wordsOf s) wordsLeft before after) where

@@ -28,7 +28,7 @@ use Rattle.calls.specs.Sound.{timesSound, numberAmong, entriesSound, roomsFrom,
 use Rattle.calls.specs.Calls.{leastRoom, openAnswer, packetRefusal, clockRefusal, packetCall, clockCall}
 use Rattle.demands.specs.Runs.{Given, callOf, afterCall}
 use Rattle.demands.specs.Conditions.{PacketWrong, TableWrong, ListShort, TimeAbove, StateWrong, ByteWrong, OrderWrong}
-use Rattle.demands.proofs.Accepted.{packet-number, clock-number}
+use Rattle.calls.proofs.Accepted.{packet-number, clock-number}
 use Rattle.demands.proofs.Numbers.{demand-2-accepts-opening, demand-2-accepts-clock, demand-2-accepts-packet}
 use Rattle.outcomes.specs.Engines.{Outcome, Meets, rightOutcome, Refuses, eventsIn, next, start, records, patAt, countedAt}
 use Rattle.outcomes.proofs.Calls.{right-meets, answered, numbered, counted, listed, listed-third, refusal-events, refusal-state, refusal-n, refusal-counters, refusal-memory}

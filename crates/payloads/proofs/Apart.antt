@@ -12,7 +12,7 @@ use Rattle.lists.proofs.Places.{part-sets-before}
 use Rattle.watches.specs.declared.Entry.{Entry}
 use Rattle.sections.specs.Rooms.{patRoom, roomOfPlace, roomBase, halfBuilt}
 use Rattle.sections.proofs.Jobs.{Elsewhere}
-use Rattle.programmes.proofs.Moved.{places-length}
+use Rattle.programmes.proofs.Moved.{moved-length}
 use Rattle.programmes.specs.Places.{placeOf, isListed, pidAt, isFirst, halfAt, movedFrom, movedHalves, movedPlace, movedPlaces, movedBytes}
 
 -- LAYING BEHIND A PLACE
@@ -77,14 +77,11 @@ pub bytes-apart : (old new : List Entry) (ns : List ℕ) (x : ℕ) (m : List ℕ
 bytes-apart old new ns x m h =
     ap (λ z. movedPlaces old new z m 0 16 m) (halves-apart old new ns x h) ∙ places-apart old new (movedHalves old new ns) x m 0 16 m
 
-pub bytes-length : (old new : List Entry) (ns m : List ℕ) → length (movedBytes old new ns m) ≡ length m
-bytes-length old new ns m = places-length old new (movedHalves old new ns) m 0 16 m
-
 pub bytes-elsewhere : (old new : List Entry) (ns : List ℕ) → Elsewhere patRoom (movedBytes old new ns)
 unfolding part
 bytes-elsewhere old new ns =
     record {
-      size = bytes-length old new ns;
+      size = moved-length old new ns;
       reads = λ m n h. places-front old new (movedHalves old new ns) n (omega arith) m 0 16 m;
       lays = λ m i b h. sym (places-set old new (movedHalves old new ns) (roomBase patRoom + i) b (omega arith) m 0 16 m);
     }

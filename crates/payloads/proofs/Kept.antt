@@ -25,7 +25,7 @@ use Rattle.calls.specs.Cores.{Held, listed}
 use Rattle.calls.specs.Steps.{arrivedTable, arrivedProgramme, newList, listedBy, relisted, bytesOf, absorbedBy, absorbedAll}
 use Rattle.payloads.specs.Taking.{held}
 use Rattle.payloads.specs.Parts.{acted, Left, Shown, Fit}
-use Rattle.payloads.proofs.Apart.{bytes-length}
+use Rattle.programmes.proofs.Moved.{moved-length}
 
 abbrev Small : List ℕ → Type 0
 Small ns = (k : ℕ) → k < 16 → halfAt ns (roomOfPlace k) ≤ 1024
@@ -49,7 +49,7 @@ module _ (t r pid : ℕ) (c : Core) (m : List ℕ) (most : c .count ≤ 16) (kep
       let old = listed c in
       let new = listedBy (newList t x c) in
       record {
-        whole = bytes-length old new (c .half) m ∙ kept .whole;
+        whole = moved-length old new (c .half) m ∙ kept .whole;
         rooms = omega (arith, length-append (take 5 (c .half)) (movedFrom old new (c .half) 0 16), length-take-le 5 (c .half) (kept .rooms));
         halves = halves-small old new (c .half) (kept .rooms) (omega (arith, length-take (c .count) (c .entries))) (kept .halves);
       }

@@ -14,7 +14,7 @@ use Rattle.sections.specs.Rooms.{memorySize, roomCount, roomOfPlace, roomBase, 
 use Rattle.sections.proofs.Stages.{place-fits}
 use Rattle.sections.proofs.Rooms.{place-top, room-sets}
 use Rattle.programmes.specs.Listing.{mostListed}
-use Rattle.programmes.specs.Places.{placeOf, pidAt, halfAt, movedPlace, movedPlaces}
+use Rattle.programmes.specs.Places.{placeOf, pidAt, halfAt, movedHalves, movedPlace, movedPlaces, movedBytes}
 
 -- PLACES MOVED, from the place j on
 module _ (old new : List Entry) (ns m₀ : List ℕ) where
@@ -25,7 +25,7 @@ module _ (old new : List Entry) (ns m₀ : List ℕ) where
   abbrev pub moving : ℕ → List ℕ
   moving k = halfBuilt m₀ (fromRoom k) (halfAt ns (roomOfPlace k))
 
-  pub places-length : (j left : ℕ) (m : List ℕ) → length (movedPlaces old new ns m₀ j left m) ≡ length m
+  places-length : (j left : ℕ) (m : List ℕ) → length (movedPlaces old new ns m₀ j left m) ≡ length m
   unfolding movedPlaces
   places-length j zero m = refl
   places-length j (suc left) m = places-length (j + 1) left (movedPlace old new ns m₀ j m) ∙ length-sets m (roomBase (roomOfPlace j)) (moving j)
@@ -67,3 +67,7 @@ module _ (old new : List Entry) (ns m₀ : List ℕ) where
               (movedPlace old new ns m₀ j m) (omega arith) (λ i u v. omega arith)
               ∙ ap (λ i. halfBuilt (movedPlace old new ns m₀ i m) (roomOfPlace k) (halfAt ns (roomOfPlace k))) e
               ∙ place-here m (omega arith) l
+
+-- ALL OF THEM, as a list is read
+pub moved-length : (old new : List Entry) (ns m : List ℕ) → length (movedBytes old new ns m) ≡ length m
+moved-length old new ns m = places-length old new (movedHalves old new ns) m 0 16 m

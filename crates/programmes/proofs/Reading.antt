@@ -6,10 +6,10 @@ use Prim.Native.Nat.{ℕ, suc, _+_, _-_, _*_, _≤_, _<_}
 use native.Mathlib.Numerals.{add-one}
 use native.Mathlib.Omega.{arith}
 use lib.Dec.{eqb, leb}
-use lib.ListN.{length, getD, drop, length-drop}
+use lib.ListN.{length, drop, length-drop}
 use borrow.Author.Tests.{leb-false}
 use Rattle.lists.proofs.Tests.{or-false-right}
-use Rattle.lists.proofs.Turns.{drop-turn}
+use Rattle.lists.proofs.Turns.{drop-four}
 use Rattle.watches.specs.declared.Entry.{Entry}
 use Rattle.programmes.specs.declared.Listed.{Listed}
 use Rattle.programmes.specs.declared.Addition.{Addition}
@@ -76,14 +76,6 @@ added-turn r l next most room b e q =
     go false e n = omega arith
 
 -- ONE ENTRY of four bytes
-fours : (e : List ℕ) (i : ℕ) → i + 4 ≤ length e
-    → drop i e ≡ getD e i 0 ∷ getD e (i + 1) 0 ∷ getD e (i + 2) 0 ∷ getD e (i + 3) 0 ∷ drop (i + 4) e
-fours e i h =
-    let two : i + 1 + 1 ≡ i + 2 = omega arith in
-    let three : i + 2 + 1 ≡ i + 3 = omega arith in
-    let four : i + 3 + 1 ≡ i + 4 = omega arith in
-    rw (drop-turn e i 0 (omega arith), drop-turn e (i + 1) 0 (omega arith), two, drop-turn e (i + 2) 0 (omega arith), three, drop-turn e (i + 3) 0 (omega arith), four)
-
 module _ (t : ℕ) (old : List Entry) (e : List ℕ) where
   pub read-turn : (k : ℕ) (l : Listed) → 4 * k + 4 ≤ length e
       → readOn t old (seenTo e k) l (drop (4 * k) e)
@@ -91,7 +83,7 @@ module _ (t : ℕ) (old : List Entry) (e : List ℕ) where
   unfolding readOn seenTo
   read-turn k l h =
       let q : 4 * suc k ≡ 4 * k + 4 = omega arith in
-      rw (add-one k) (ap (readOn t old (seenTo e k) l) (fours e (4 * k) h) ∙ ap (λ z. readOn t old (numberAt e k ∷ seenTo e k) (entered t old (seenTo e k) (numberAt e k) (pidIn e k) l) (drop z e)) (sym q))
+      rw (add-one k) (ap (readOn t old (seenTo e k) l) (drop-four e (4 * k) 0 h) ∙ ap (λ z. readOn t old (numberAt e k ∷ seenTo e k) (entered t old (seenTo e k) (numberAt e k) (pidIn e k) l) (drop z e)) (sym q))
 
   pub read-begins : (l : Listed) → readOn t old [] l e ≡ readOn t old (seenTo e 0) l (drop (4 * 0) e)
   unfolding seenTo

@@ -7,7 +7,7 @@ use Prim.Native.Nat.{ℕ, _≤_}
 use native.Mathlib.Omega.{arith}
 use lib.Dec.{leb, eqb}
 use lib.ListN.{length, getD, set}
-use lib.Seq.{set-out, set-getD}
+use lib.Seq.{set-getD}
 use borrow.Author.Tests.{leb-true, eqb-true, ne-eqb, le-ltb, not-true}
 use Rattle.lists.proofs.Tests.{and-left, and-right}
 use Rattle.events.specs.Faults.{continuityError}
@@ -19,12 +19,13 @@ use Rattle.sections.specs.Rooms.{roomCount, noRoom}
 use Rattle.programmes.specs.Listing.{lowestPid, mostListed}
 use Rattle.programmes.specs.Places.{isListed}
 use Rattle.calls.specs.declared.State.{State}
-use Rattle.calls.specs.Cores.{Held, listed, fixedRoom, roomFor, withHalf, droppedRoom, lateOf}
+use Rattle.calls.specs.Cores.{Held, listed, fixedRoom, roomFor, droppedRoom, lateOf}
 use Rattle.calls.specs.Sync.{Synced, withSync, whileLost, inSync, syncedOf}
 use Rattle.calls.specs.Steps.{Step, also, packetEvents, counted, step1, step2, step4, step5}
 use Rattle.calls.specs.Sound.{timeSound, roomsSound, stateSound}
 use Rattle.calls.specs.Calls.{heldOf, packetCall}
 use Rattle.calls.proofs.Accepted.{PacketAccepted, accepted-packet, packet-call-accepted, rooms-at, sound-whole}
+use Rattle.calls.proofs.Moves.{dropped-nowhere}
 use Rattle.checks.specs.Ladders.{Right}
 use Rattle.quiet.specs.Quiet.{tablesQuiet, entriesQuiet, unmarked, syncQuiet, latestQuiet, stateQuiet, headQuiet, idlePacket, byteQuiet, countQuiet, quietCall, quietByte}
 use Rattle.quiet.proofs.Turns.{passed}
@@ -109,10 +110,6 @@ module _ (s : State) (m : List ℕ) (t q : ℕ) (h : QuietState s m t q) where
       ∙ ap (λ (b : Bool). inSync b c) e
       ∙ ap₂ (λ (b : Bool) (n : ℕ). record { core = withSync b n c; faults = []; further = true }) (sym (h .insync)) (sym (h .run))
 
--- what is dropped past the last room
-dropped-nowhere : (s : State) (m : List ℕ) → length (s .core .half) ≤ roomCount → droppedRoom noRoom (heldOf s m) ≡ heldOf s m
-dropped-nowhere s m l = ap (λ (ns : List ℕ). record { core = withHalf ns (s .core); memory = m }) (set-out (s .core .half) noRoom 0 l)
-
 -- A QUIET PACKET, part by part
 pub record QuietPacket (x : List ℕ) (b : ℕ) : Type 0 where
   pub sync : rightSync x ≡ true
@@ -179,7 +176,7 @@ module _ (s : State) (m : List ℕ) (t : ℕ) (x counters : List ℕ) (room : �
 
   quiet-step-5 : (take : Bool) (cs : List ℕ) → length (s .core .half) ≤ roomCount → step5 t x take cs (heldOf s m) ≡ after5 cs
   quiet-step-5 take cs l =
-      rw (nowhere, dropped-nowhere s m l, ne-eqb (pidOf x) 0 (λ z. omega (arith, quietPacket .low)), quiet-unlisted s m t (pidOf x) quietState) (go (scrambledBits x) take)
+      rw (nowhere, dropped-nowhere noRoom (heldOf s m) l, ne-eqb (pidOf x) 0 (λ z. omega (arith, quietPacket .low)), quiet-unlisted s m t (pidOf x) quietState) (go (scrambledBits x) take)
     where
       go : (b c : Bool) → cond b (after5 cs) (cond c (after5 cs) (after5 cs)) ≡ after5 cs
       go true c = refl
@@ -199,7 +196,7 @@ module _ (s : State) (m : List ℕ) (t : ℕ) (x counters : List ℕ) (room : �
     where
       kept : (b : Bool) → cond b (heldOf s m) (droppedRoom noRoom (heldOf s m)) ≡ heldOf s m
       kept true = refl
-      kept false = dropped-nowhere s m l
+      kept false = dropped-nowhere noRoom (heldOf s m) l
 
   -- 3 and 2
   quiet-step-2 : length (s .core .half) ≤ roomCount → step2 t x counters (heldOf s m) ≡ quietStep

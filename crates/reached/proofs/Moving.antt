@@ -19,7 +19,7 @@ use Rattle.sections.proofs.Jobs.{empty-more}
 use Rattle.programmes.specs.Listing.{mostListed}
 use Rattle.programmes.specs.Places.{placeOf, isListed, pidAt, isFirst, halfAt, movedFrom, movedHalves, movedPlace, movedPlaces, movedBytes}
 use Rattle.programmes.proofs.Moves.{halves-at}
-use Rattle.programmes.proofs.Moved.{fromRoom, moving, places-length, places-others, places-here}
+use Rattle.programmes.proofs.Moved.{fromRoom, moving, places-others, places-here}
 use Rattle.calls.specs.Sound.{roomSound}
 use Rattle.reached.specs.Reached.{Bytes}
 use Rattle.reached.proofs.Places.{all-sets, all-part}
@@ -39,9 +39,6 @@ module _ (old new : List Entry) (ns m : List ℕ) (size : length m ≡ memorySiz
     (rooms : (r : ℕ) → r < roomCount → roomSound ns m r ≡ true) where
   abbrev next : List ℕ
   next = movedHalves old new ns
-
-  pub moved-length : length (movedBytes old new ns m) ≡ memorySize
-  moved-length = places-length old new next m 0 16 m ∙ size
 
   pub moved-bytes : Bytes m → Bytes (movedBytes old new ns m)
   moved-bytes b = places-bytes old new next m b 0 16 m b
