@@ -87,7 +87,7 @@ static void calls(void) {
     before = card;
     CHECK(is_refused(songpigeon_card_open(&card, latest + 1), SONGPIGEON_REFUSED_TIME));
     reply = songpigeon_card_open(&card, latest);
-    CHECK(reply.refusal == SONGPIGEON_ACCEPTED && reply.n == 0 && card.times[0] == latest);
+    CHECK(reply.refusal == SONGPIGEON_ACCEPTED && reply.n == 0 && card.times[SONGPIGEON_AT_LATEST] == latest);
     memset(&card, 0, sizeof card);
     before = card;
     reply = songpigeon_card_open(&card, 0);
@@ -339,7 +339,7 @@ static void *work(void *place) {
     songpigeon_card *mine = place;
     uint8_t packet[SONGPIGEON_PACKET];
     uint8_t payload[184];
-    uint64_t seed = mine->times[0];
+    uint64_t seed = mine->times[SONGPIGEON_AT_LATEST];
     songpigeon_card_open(mine, 0);
     for (uint64_t time = 1; time < 200000; time++) {
         seed = seed * UINT64_C(6364136223846793005) + 1;
@@ -359,7 +359,7 @@ static void threads(void) {
     static songpigeon_card beside[2];
     pthread_t running[2];
     for (int k = 0; k < 2; k++) {
-        alone[k].times[0] = beside[k].times[0] = (uint64_t)k + 1;
+        alone[k].times[SONGPIGEON_AT_LATEST] = beside[k].times[SONGPIGEON_AT_LATEST] = (uint64_t)k + 1;
         work(&alone[k]);
     }
     for (int k = 0; k < 2; k++) {

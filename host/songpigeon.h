@@ -38,12 +38,14 @@ uint32_t songpigeon_version(void);
 /* Sizes. */
 enum {
     SONGPIGEON_PACKET = 188,
-    SONGPIGEON_TIMES = 22, /* latest time; gap starts of PAT, NIT, SDT, EIT, TDT; of the list's sixteen places */
-    SONGPIGEON_WORDS = 56, /* 16 programme numbers, 16 PIDs, 21 half-built lengths, sync lost, run, list's length */
-    SONGPIGEON_COUNTERS = 8192,  /* one byte for each PID */
-    SONGPIGEON_MEMORY = 24576,   /* half-built sections */
-    SONGPIGEON_NUMBERS = 384,    /* the events of a call as numbers, four to an event */
-    SONGPIGEON_EVENTS = 96,      /* the least room for events; a call has at most 87 */
+    SONGPIGEON_TIMES = 22,      /* latest time and gap starts, see SONGPIGEON_AT_LATEST */
+    SONGPIGEON_WORDS = 56,      /* the list, half-built lengths and sync, see SONGPIGEON_AT_NUMBERS */
+    SONGPIGEON_COUNTERS = 8192, /* one byte for each PID */
+    SONGPIGEON_MEMORY = 24576,  /* half-built sections */
+    SONGPIGEON_EVENTS = 96,     /* the least room for events; a call has at most 87 */
+    SONGPIGEON_WIDTH = 4,       /* the numbers of an event: stamp, fault, cause, id */
+    /* the events of a call as numbers */
+    SONGPIGEON_NUMBERS = SONGPIGEON_WIDTH * SONGPIGEON_EVENTS,
     SONGPIGEON_FIELDS = 12,      /* the fields of a test data section, one byte each */
     SONGPIGEON_PLACES = 4,       /* descriptors at, length; data at, length */
     SONGPIGEON_VALUES = 5,       /* the numbers of a descriptor of fixed size, at most */
@@ -52,13 +54,26 @@ enum {
     SONGPIGEON_STACK = 65536     /* what a call needs of stack, at most */
 };
 
+/* Where the numbers of a state stand in its two arrays. A number that is new stands behind all of them. */
+enum {
+    SONGPIGEON_AT_LATEST = 0,  /* in the times: the latest accepted time */
+    SONGPIGEON_AT_GAPS = 1,    /* gap starts of PAT, NIT, SDT, EIT and TDT */
+    SONGPIGEON_AT_SINCES = 6,  /* those of the sixteen places of the list */
+    SONGPIGEON_AT_NUMBERS = 0, /* in the words: programme numbers of the sixteen places of the list */
+    SONGPIGEON_AT_PIDS = 16,   /* their PIDs */
+    SONGPIGEON_AT_HALVES = 32, /* half-built lengths, one for each room */
+    SONGPIGEON_AT_LOST = 53,   /* not 0: sync is lost */
+    SONGPIGEON_AT_RUN = 54,    /* the run of wrong sync bytes; while sync is lost, of right ones */
+    SONGPIGEON_AT_COUNT = 55   /* how many programmes are listed */
+};
+
 /* Why a call is refused; 0: it is accepted. Where several hold, the lowest is given; test data sections have an order of
  * their own. */
 enum {
     SONGPIGEON_ACCEPTED = 0,
     SONGPIGEON_REFUSED_PACKET = 1,   /* the packet is not 188 bytes */
     SONGPIGEON_REFUSED_COUNTERS = 2, /* the counter table is not 8,192 bytes */
-    SONGPIGEON_REFUSED_EVENTS = 3,   /* the event list has room for fewer than 96 */
+    SONGPIGEON_REFUSED_EVENTS = 3,   /* the event list has room for fewer than SONGPIGEON_EVENTS */
     SONGPIGEON_REFUSED_TIME = 4,     /* the time is above 2^62 */
     SONGPIGEON_REFUSED_STATE = 5,    /* the state, or the packet's table byte, is none that calls leave */
     SONGPIGEON_REFUSED_ORDER = 6,    /* the time is below the latest accepted one */

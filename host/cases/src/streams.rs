@@ -85,7 +85,7 @@ fn streams() -> Vec<Stream> {
 /// The lines by the reference.
 fn by_reference(stream: &Stream) -> String {
     let mut counters = vec![0; probe::COUNTERS];
-    let mut memory = Box::new([0; 24_576]);
+    let mut memory = Box::new([0; probe::MEMORY]);
     let mut events = [Event::default(); probe::EVENT_ROOM];
     let mut state = probe::open(0, &mut counters).state;
     let mut lines = Vec::new();

@@ -4,15 +4,15 @@
 use crate::coverage::Coverage;
 use crate::random::Random;
 use crate::streams::Stream;
-use songpigeon::lent;
-use songpigeon_reference::probe::{self, LATEST_TIME};
+use songpigeon::lent::{self, place};
+use songpigeon_reference::probe::{self, EVENT_ROOM, LATEST_TIME};
 use songpigeon_reference::sections::base;
 use songpigeon_reference::{Entry, Event, State};
 use std::array;
 
 /// Lent memory is longer than it need be, so that other lengths can be handed in.
-const COUNTER_ROOM: usize = 8_200;
-const EVENT_ROOM: usize = 100;
+const COUNTER_ROOM: usize = probe::COUNTERS + 8;
+const RECORDS: usize = EVENT_ROOM + 4;
 
 /// One side's memory is the reference's, the other the product's.
 pub struct Pair {
@@ -29,28 +29,32 @@ pub struct Pair {
 }
 
 pub fn lay(state: &State, times: &mut lent::Times, words: &mut lent::Words) {
-    times[0] = state.latest;
-    times[1..6].copy_from_slice(&state.since);
+    times[place::LATEST] = state.latest;
+    times[place::GAPS..place::SINCES].copy_from_slice(&state.since);
     for (k, entry) in state.entries.iter().enumerate() {
-        times[6 + k] = entry.since;
-        words[k] = entry.number;
-        words[16 + k] = entry.pid;
+        times[place::SINCES + k] = entry.since;
+        words[place::NUMBERS + k] = entry.number;
+        words[place::PIDS + k] = entry.pid;
     }
-    words[32..53].copy_from_slice(&state.half);
-    words[53] = u16::from(state.lost);
-    words[54] = u16::from(state.run);
-    words[55] = state.count as u16;
+    words[place::HALVES..place::LOST].copy_from_slice(&state.half);
+    words[place::LOST] = u16::from(state.lost);
+    words[place::RUN] = u16::from(state.run);
+    words[place::COUNT] = state.count as u16;
 }
 
 pub fn laid(times: &lent::Times, words: &lent::Words) -> State {
-    let mut state = State { latest: times[0], lost: words[53] != 0, ..State::default() };
-    state.since.copy_from_slice(&times[1..6]);
+    let mut state = State { latest: times[place::LATEST], lost: words[place::LOST] != 0, ..State::default() };
+    state.since.copy_from_slice(&times[place::GAPS..place::SINCES]);
     for (k, entry) in state.entries.iter_mut().enumerate() {
-        *entry = Entry { number: words[k], pid: words[16 + k], since: times[6 + k] };
+        *entry = Entry {
+            number: words[place::NUMBERS + k],
+            pid: words[place::PIDS + k],
+            since: times[place::SINCES + k],
+        };
     }
-    state.half.copy_from_slice(&words[32..53]);
-    state.run = u8::try_from(words[54]).unwrap_or(u8::MAX);
-    state.count = usize::from(words[55]);
+    state.half.copy_from_slice(&words[place::HALVES..place::LOST]);
+    state.run = u8::try_from(words[place::RUN]).unwrap_or(u8::MAX);
+    state.count = usize::from(words[place::COUNT]);
     state
 }
 
@@ -77,10 +81,10 @@ impl Pair {
             memory,
             product_counters: counters.clone(),
             counters,
-            events: vec![Event::default(); EVENT_ROOM],
+            events: vec![Event::default(); RECORDS],
             times: [random.number(); lent::TIMES],
             words: [random.number() as u16; lent::WORDS],
-            product_events: vec![lent::Event::default(); EVENT_ROOM],
+            product_events: vec![lent::Event::default(); RECORDS],
             numbers: array::from_fn(|_| random.number()),
         };
         let opening = probe::open(time, &mut pair.counters[..probe::COUNTERS]);
@@ -98,7 +102,7 @@ impl Pair {
         if replied(expected) != found {
             return Err(format!("reference {:?}, product {:?}", expected, found));
         }
-        if let Some(k) = (0..EVENT_ROOM).find(|&k| !same_event(&self.events[k], &self.product_events[k])) {
+        if let Some(k) = (0..RECORDS).find(|&k| !same_event(&self.events[k], &self.product_events[k])) {
             return Err(format!("event {}: reference {:?}, product {:?}", k, self.events[k], self.product_events[k]));
         }
         if let Some(k) = differs(&self.counters, &self.product_counters) {
@@ -127,7 +131,7 @@ impl Pair {
 
     /// The numbers, of anything before the call: the call's events laid over them, four numbers to an event.
     fn compare_numbers(&self, n: usize, mut numbers: lent::Numbers) -> Result<(), String> {
-        for (place, event) in numbers.chunks_exact_mut(4).zip(&self.events[..n]) {
+        for (place, event) in numbers.chunks_exact_mut(lent::WIDTH).zip(&self.events[..n]) {
             place.copy_from_slice(&[event.stamp, event.fault.into(), event.cause.into(), event.id.into()]);
         }
         match (0..lent::NUMBERS).find(|&k| numbers[k] != self.numbers[k]) {
@@ -206,12 +210,12 @@ impl Pair {
     /// One call of a log. Says what came of it.
     pub fn call(&mut self, stream: &mut Stream, random: &Random, seen: &mut Coverage) -> Result<(), String> {
         let time = self.time(random);
-        let (mut table, mut room) = (probe::COUNTERS, random.pick(&[96, 96, 97, EVENT_ROOM]));
+        let (mut table, mut room) = (probe::COUNTERS, random.pick(&[EVENT_ROOM, EVENT_ROOM, EVENT_ROOM + 1, RECORDS]));
         let clock = random.once_in(6);
         let odd = random.once_in(100);
         if odd {
             table = random.pick(&[0, 1, 8_191, 8_192, 8_193]);
-            room = random.pick(&[0, 1, 95, 96]);
+            room = random.pick(&[0, 1, EVENT_ROOM - 1, EVENT_ROOM]);
         }
         let (kind, result) = if clock {
             ("clock", self.clock(time, room)?)
@@ -244,18 +248,18 @@ impl Pair {
         self.product_counters = self.counters.clone();
         lay(&self.state, &mut self.times, &mut self.words);
         if self.state.lost && random.once_in(4) {
-            self.words[53] = random.pick(&[2, 0x100, u16::MAX]);
+            self.words[place::LOST] = random.pick(&[2, 0x100, u16::MAX]);
         }
         if self.state.run > 4 && random.once_in(2) {
-            self.words[54] = u16::MAX;
+            self.words[place::RUN] = u16::MAX;
             self.state.run = u8::MAX;
         }
         let packet = stream.packet(random);
         let time = if random.once_in(2) { self.state.latest } else { self.time(random) };
         let (kind, result) = if random.once_in(4) {
-            ("clock", self.clock(time, EVENT_ROOM)?)
+            ("clock", self.clock(time, RECORDS)?)
         } else {
-            ("packet", self.packet(time, &packet, probe::COUNTERS, EVENT_ROOM)?)
+            ("packet", self.packet(time, &packet, probe::COUNTERS, RECORDS)?)
         };
         match result {
             Ok(_) => seen.met("forged state accepted".to_string()),

@@ -7,11 +7,12 @@ use crate::sections::{self, Progress, FIXED_ROOMS, ROOMS};
 pub const LATEST_TIME: u64 = 1 << 62;
 pub const PACKET: usize = 188;
 pub const COUNTERS: usize = 8_192;
+pub const MEMORY: usize = 24_576;
 pub const EVENT_ROOM: usize = 96;
 pub const PROGRAMMES: usize = 16;
 
 /// Half-built sections, lent beside the state and part of it in every sentence of the paper.
-pub type Memory = [u8; 24_576];
+pub type Memory = [u8; MEMORY];
 
 pub(crate) const NULL_PID: u16 = 0x1FFF;
 

@@ -85,6 +85,7 @@ pub fn table_id_extension(section: &[u8]) -> u16 {
 #[cfg(test)]
 mod tests {
     use super::*;
+    use crate::probe::MEMORY;
 
     #[test]
     fn rooms_fill_the_memory() {
@@ -93,7 +94,7 @@ mod tests {
         assert_eq!(base(EIT), 3_072);
         assert_eq!(base(TDT), 7_168);
         assert_eq!(base(FIXED_ROOMS), 8_192);
-        assert_eq!(base(20) + ROOM, 24_576);
+        assert_eq!(base(20) + ROOM, MEMORY);
     }
 
     #[test]

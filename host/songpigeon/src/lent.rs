@@ -5,18 +5,42 @@
 //! their caller is what a Rust reference is: never null (not with length 0 either), aligned, alive for the call, and no
 //! two of the written ones over the same bytes.
 
-/// latest time, the gap starts of the five fixed tables, those of the sixteen places of the list
+/// latest time and gap starts, see [`place`]
 pub const TIMES: usize = 22;
-/// programme numbers (16), their PIDs (16), half-built lengths (21), sync lost, run, length of the list
+/// the list, half-built lengths and sync, see [`place`]
 pub const WORDS: usize = 56;
 /// one byte for each PID
 pub const COUNTERS: usize = 8_192;
 /// half-built sections
 pub const MEMORY: usize = 24_576;
-/// the events of a call as numbers, four to an event: stamp, fault, cause, id
-pub const NUMBERS: usize = 384;
 /// the least room for events
 pub const EVENT_ROOM: usize = 96;
+/// the numbers of an event: stamp, fault, cause, id
+pub const WIDTH: usize = 4;
+/// the events of a call as numbers
+pub const NUMBERS: usize = WIDTH * EVENT_ROOM;
+
+/// Where the numbers of a state stand in its two arrays. A number that is new stands behind all of them.
+pub mod place {
+    /// in the times: the latest accepted time
+    pub const LATEST: usize = 0;
+    /// gap starts of PAT, NIT, SDT, EIT and TDT
+    pub const GAPS: usize = 1;
+    /// those of the sixteen places of the list
+    pub const SINCES: usize = 6;
+    /// in the words: programme numbers of the sixteen places of the list
+    pub const NUMBERS: usize = 0;
+    /// their PIDs
+    pub const PIDS: usize = 16;
+    /// half-built lengths, one for each room
+    pub const HALVES: usize = 32;
+    /// not 0: sync is lost
+    pub const LOST: usize = 53;
+    /// the run of wrong sync bytes; while sync is lost, of right ones
+    pub const RUN: usize = 54;
+    /// how many programmes are listed
+    pub const COUNT: usize = 55;
+}
 
 /// the fields of a test data section, one byte each
 pub const FIELDS: usize = 12;

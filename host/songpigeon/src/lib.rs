@@ -40,7 +40,7 @@ impl Refusal {
         match self {
             Refusal::PACKET => "the packet is not 188 bytes",
             Refusal::COUNTERS => "the counter table is not 8,192 bytes",
-            Refusal::EVENTS => "the event list has room for fewer than 96",
+            Refusal::EVENTS => "the event list has too few records",
             Refusal::TIME => "the time is above 2^62",
             Refusal::STATE => "the state is none that calls leave",
             Refusal::ORDER => "the time is below the latest accepted one",

@@ -1,6 +1,6 @@
 //! What the boundary asks and gives: sizes and places of fields as `host/songpigeon.h` has them, and each call over it.
 
-use songpigeon::lent::{self, Event, Found, Laid, Reply, Verdict};
+use songpigeon::lent::{self, place, Event, Found, Laid, Reply, Verdict, EVENT_ROOM, WIDTH};
 use songpigeon::testdata::{self, Descriptor, Fields};
 use songpigeon::{cause, fault, severity, Kind, Probe, Refusal};
 use std::error::Error;
@@ -50,7 +50,7 @@ fn slices_of_every_length_are_answered() {
     let mut memory = [0; lent::MEMORY];
     let mut counters = vec![7; 10_000];
     let mut numbers = [8; lent::NUMBERS];
-    let mut events = vec![Event { stamp: 9, fault: 9, cause: 9, id: 9 }; 200];
+    let mut events = vec![Event { stamp: 9, fault: 9, cause: 9, id: 9 }; 2 * EVENT_ROOM];
     for n in [0, 1, 8_191, 8_193, 10_000] {
         assert_eq!(lent::open(&mut times, &mut words, 0, &mut counters[..n]).refusal, 2);
     }
@@ -61,10 +61,10 @@ fn slices_of_every_length_are_answered() {
     let packet = packet();
     for (p, c, e, refusal) in [
         (0, 0, 0, 1),
-        (187, 8_192, 96, 1),
+        (187, 8_192, EVENT_ROOM, 1),
         (188, 0, 0, 2),
-        (188, 8_191, 96, 2),
-        (188, 8_192, 95, 3),
+        (188, 8_191, EVENT_ROOM, 2),
+        (188, 8_192, EVENT_ROOM - 1, 3),
         (188, 8_192, 0, 3),
     ] {
         let (packet, counters, events) = (&packet[..p], &mut counters[..c], &mut events[..e]);
@@ -73,8 +73,8 @@ fn slices_of_every_length_are_answered() {
     }
     // a list that is too short is told before a time above 2^62 and a run that no call leaves
     for (time, run) in [(5, 0), ((1 << 62) + 1, 2)] {
-        words[54] = run;
-        for room in [0, 95] {
+        words[place::RUN] = run;
+        for room in [0, EVENT_ROOM - 1] {
             let (counters, events) = (&mut counters[..8_192], &mut events[..room]);
             let reply =
                 lent::packet(&mut times, &mut words, time, &packet, counters, &mut memory, &mut numbers, events);
@@ -82,13 +82,13 @@ fn slices_of_every_length_are_answered() {
             let reply = lent::clock(&mut times, &mut words, time, &memory, &mut numbers, events);
             assert_eq!(reply, Reply { refusal: 3, n: 0 });
         }
-        assert_eq!(words[54], run);
+        assert_eq!(words[place::RUN], run);
     }
-    words[54] = 0;
+    words[place::RUN] = 0;
     assert_eq!((times, words), (t, w));
     assert!(events.iter().all(|e| e.stamp == 9));
     assert_eq!(numbers, [8; lent::NUMBERS]);
-    for room in [96, 97, 200] {
+    for room in [EVENT_ROOM, EVENT_ROOM + 1, 2 * EVENT_ROOM] {
         let (counters, events) = (&mut counters[..8_192], &mut events[..room]);
         let reply = lent::packet(&mut times, &mut words, 5, &packet, counters, &mut memory, &mut numbers, events);
         assert_eq!(reply.refusal, 0);
@@ -96,9 +96,9 @@ fn slices_of_every_length_are_answered() {
     // loss of sync with the second: two events; the third is silent; the other records are untouched
     assert_eq!(events[1], Event { stamp: 5, fault: 0x000C, cause: 0, id: 0x0123 });
     assert!(events[2..].iter().all(|e| e.stamp == 9));
-    // four numbers to an event, the others as they were
-    assert_eq!(numbers[4..8], [5, 0x000C, 0, 0x0123]);
-    assert!(numbers[8..].iter().all(|&number| number == 8));
+    // its numbers behind those of the first, the others as they were
+    assert_eq!(numbers[WIDTH..2 * WIDTH], [5, 0x000C, 0, 0x0123]);
+    assert!(numbers[2 * WIDTH..].iter().all(|&number| number == 8));
 }
 
 #[test]
@@ -116,14 +116,14 @@ fn an_unaligned_packet_is_a_packet() {
 #[test]
 fn forged_states_are_answered() {
     let (mut counters, mut memory) = ([0; 8_192], [0; lent::MEMORY]);
-    let (mut numbers, mut events) = ([0; lent::NUMBERS], [Event::default(); 96]);
+    let (mut numbers, mut events) = ([0; lent::NUMBERS], [Event::default(); EVENT_ROOM]);
     for word in 0..lent::WORDS {
         let (mut times, mut words) = ([0; lent::TIMES], [0; lent::WORDS]);
         words[word] = u16::MAX;
         let (packet, table) = (packet(), &mut counters);
         let reply = lent::packet(&mut times, &mut words, 0, &packet, table, &mut memory, &mut numbers, &mut events);
         // a place that is not listed is not judged; `lost` has no wrong value; all others are refused
-        let expected = if word < 32 || word == 53 { 0 } else { 5 };
+        let expected = if word < place::HALVES || word == place::LOST { 0 } else { 5 };
         assert_eq!(reply.refusal, expected, "word {}", word);
     }
     for time in 0..6 {
@@ -227,7 +227,7 @@ fn a_refusal_is_an_error_that_says_what_it_is() {
     assert_eq!(Refusal(99).to_string(), "refused with 99: no meaning is known");
 }
 
-/// The number that the header gives a name, in an `enum` or by `#define`.
+/// The number that the header gives a name, in an `enum` or by `#define`: a number, or a product of names.
 fn in_header(header: &str, name: &str) -> Option<u32> {
     let value = header.lines().find_map(|line| {
         let mut words = line.trim().trim_start_matches("#define ").splitn(2, [' ', '=']);
@@ -237,11 +237,12 @@ fn in_header(header: &str, name: &str) -> Option<u32> {
             None
         }
     })?;
-    let value = value.trim_start_matches([' ', '=']).split([',', ' ']).next()?;
-    match value.strip_prefix("0x") {
+    let value = value.trim_start_matches([' ', '=']).split([',', '/']).next()?;
+    let factor = |word: &str| match word.strip_prefix("0x") {
         Some(hex) => u32::from_str_radix(hex, 16).ok(),
-        None => value.parse().ok(),
-    }
+        None => word.parse().ok().or_else(|| in_header(header, word)),
+    };
+    value.split('*').map(|word| factor(word.trim())).product()
 }
 
 /// C and Rust have the same names and numbers, and both the library's version.
@@ -295,8 +296,18 @@ fn the_header_has_the_same_names() {
         ("WORDS", lent::WORDS as u32),
         ("COUNTERS", lent::COUNTERS as u32),
         ("MEMORY", lent::MEMORY as u32),
+        ("EVENTS", EVENT_ROOM as u32),
+        ("WIDTH", WIDTH as u32),
         ("NUMBERS", lent::NUMBERS as u32),
-        ("EVENTS", lent::EVENT_ROOM as u32),
+        ("AT_LATEST", place::LATEST as u32),
+        ("AT_GAPS", place::GAPS as u32),
+        ("AT_SINCES", place::SINCES as u32),
+        ("AT_NUMBERS", place::NUMBERS as u32),
+        ("AT_PIDS", place::PIDS as u32),
+        ("AT_HALVES", place::HALVES as u32),
+        ("AT_LOST", place::LOST as u32),
+        ("AT_RUN", place::RUN as u32),
+        ("AT_COUNT", place::COUNT as u32),
         ("FIELDS", lent::FIELDS as u32),
         ("PLACES", lent::PLACES as u32),
         ("VALUES", lent::VALUES as u32),

@@ -1,5 +1,6 @@
 //! One call each, and its lines.
 
+use songpigeon_reference::probe::{EVENT_ROOM, MEMORY};
 use songpigeon_reference::{clock, open, packet, Entry, Event, Memory, State};
 
 pub const GREATEST: u64 = 1 << 62;
@@ -28,7 +29,7 @@ impl Log {
     pub fn opened(time: u64) -> Self {
         let mut counters = vec![0; 8192];
         let state = open(time, &mut counters).state;
-        Log { state, counters, memory: [0; 24_576] }
+        Log { state, counters, memory: [0; MEMORY] }
     }
 
     /// Programmes 1 and 2, on the PIDs 0x1000 and 0x1001.
@@ -46,23 +47,23 @@ impl Log {
         log
     }
 
-    /// A packet call with room for `records` events.
-    pub fn packet_call(&mut self, time: u64, bytes: &[u8], records: usize) -> Answer {
-        let mut list = vec![MARK; records];
+    /// A packet call with the least room for events.
+    pub fn packet_call(&mut self, time: u64, bytes: &[u8]) -> Answer {
+        let mut list = vec![MARK; EVENT_ROOM];
         let result = packet(&mut self.state, &mut self.memory, time, bytes, &mut self.counters, &mut list);
         Answer { refusal: result.err().unwrap_or(0), n: result.unwrap_or(0), list }
     }
 
-    /// A clock call with room for `records` events.
-    pub fn clock_call(&mut self, time: u64, records: usize) -> Answer {
-        let mut list = vec![MARK; records];
+    /// A clock call with the least room for events.
+    pub fn clock_call(&mut self, time: u64) -> Answer {
+        let mut list = vec![MARK; EVENT_ROOM];
         let result = clock(&mut self.state, &self.memory, time, &mut list);
         Answer { refusal: result.err().unwrap_or(0), n: result.unwrap_or(0), list }
     }
 
     /// A packet call and its lines; the half-built length is that of a room.
     pub fn given(&mut self, name: &str, time: u64, bytes: &[u8], room: usize) {
-        let answer = self.packet_call(time, bytes, 96);
+        let answer = self.packet_call(time, bytes);
         let half = self.state.half[room];
         println!("{}{} half {}{}", name, self.answered(&answer), half, self.digests());
         answer.print_events();
@@ -75,7 +76,7 @@ impl Log {
 
     /// A clock call and its lines.
     pub fn clock(&mut self, name: &str, time: u64) {
-        let answer = self.clock_call(time, 96);
+        let answer = self.clock_call(time);
         println!("{}{}", name, self.answered(&answer));
         answer.print_events();
     }

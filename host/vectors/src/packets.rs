@@ -167,11 +167,11 @@ fn cut_anywhere() {
         let mut log = Log::opened(0);
         for (time, packet) in &CALLS[..k] {
             match packet {
-                Some(bytes) => log.packet_call(*time, &filled(bytes), 96),
-                None => log.clock_call(*time, 96),
+                Some(bytes) => log.packet_call(*time, &filled(bytes)),
+                None => log.clock_call(*time),
             };
         }
-        log.packet_call(5, b"\x47", 96);
+        log.packet_call(5, b"\x47");
         shown(&mut log, *call);
     }
 }

@@ -1,6 +1,7 @@
 //! Refusals 1, 2 and 4 to 6, forged states, and every byte of the counter table.
 
 use crate::lines::{filled, opening, Log, ABOVE, GREATEST};
+use songpigeon_reference::probe::MEMORY;
 use songpigeon_reference::Entry;
 
 const ON_0100: &[u8] = b"\x47\x01\x00\x10";
@@ -30,12 +31,12 @@ fn openings() {
 fn sound() -> Log {
     let mut log = Log::opened(100);
     log.state.latest = 1000;
-    log.memory = [90; 24_576];
+    log.memory = [90; MEMORY];
     log
 }
 
 fn short_table(name: &str, log: &mut Log, packet: &[u8]) {
-    let answer = log.packet_call(ABOVE, packet, 96);
+    let answer = log.packet_call(ABOVE, packet);
     println!("{}{}{}", name, log.answered(&answer), log.digests());
     answer.print_events();
 }
@@ -68,8 +69,8 @@ fn clocks() {
 
 /// The refusal and the number of events of a packet call and of a clock call.
 fn both(name: &str, log: &Log, time: u64) {
-    let packet = log.clone().packet_call(time, &filled(ON_0100), 96);
-    let clock = log.clone().clock_call(time, 96);
+    let packet = log.clone().packet_call(time, &filled(ON_0100));
+    let clock = log.clone().clock_call(time);
     println!("{}: packet {} {} clock {} {}", name, packet.refusal, packet.n, clock.refusal, clock.n);
 }
 
@@ -153,7 +154,7 @@ fn table_bytes() {
     for byte in 0..=255 {
         let mut log = Log::opened(0);
         log.counters[256] = byte;
-        let answer = log.packet_call(0, &filled(ON_0100), 96);
+        let answer = log.packet_call(0, &filled(ON_0100));
         let after = log.counters[256];
         println!("table byte {}: refusal {} n {} byte {}", byte, answer.refusal, answer.n, after);
     }

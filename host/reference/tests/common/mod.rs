@@ -9,7 +9,7 @@ pub struct Probe {
     pub state: State,
     pub memory: Box<Memory>,
     pub counters: Vec<u8>,
-    pub events: [Event; 96],
+    pub events: [Event; EVENT_ROOM],
     pub time: u64,
 }
 
@@ -21,7 +21,8 @@ impl Probe {
         let opening = open(time, &mut counters);
         assert_eq!(opening.refusal, 0);
         assert!(counters.iter().all(|&byte| byte == 0));
-        Probe { state: opening.state, memory: Box::new([0xAA; 24_576]), counters, events: [Event::default(); 96], time }
+        let (memory, events) = (Box::new([0xAA; MEMORY]), [Event::default(); EVENT_ROOM]);
+        Probe { state: opening.state, memory, counters, events, time }
     }
 
     pub fn said(&self, n: usize) -> Said {
