@@ -8,7 +8,7 @@ use Rattle.lists.specs.Places.{part}
 use Rattle.watches.specs.declared.Entry.{Entry}
 use Rattle.watches.specs.Tables.{noEntry}
 use Rattle.calls.specs.declared.State.{State}
-use Rattle.arrays.specs.Lent.{timeCount, wordCount, lostWord, countWord, lostIn, runIn, tabled, timesOf, wordsOf, stateIn}
+use Rattle.arrays.specs.Lent.{timeCount, wordCount, coreTimes, coreWords, lostWord, countWord, lostIn, runIn, tabled, timesOf, wordsOf, stateIn, latestAt, gapsAt, sincesAt, numbersAt, pidsAt, halvesAt, lostAt, runAt, countAt}
 
 abbrev first : Entry
 first = record { number = 31; pid = 41; since = 21 }
@@ -51,6 +51,10 @@ pub record Table : Type 0 where
   pub read-back : stateIn times words ≡ state
   pub times-all : length times ≡ timeCount
   pub words-all : length words ≡ wordCount
+  pub time-places : latestAt ∷ gapsAt ∷ sincesAt ∷ [] ≡ 0 ∷ 1 ∷ 6 ∷ []
+  pub word-places : numbersAt ∷ pidsAt ∷ halvesAt ∷ lostAt ∷ runAt ∷ countAt ∷ [] ≡ 0 ∷ 16 ∷ 32 ∷ 53 ∷ 54 ∷ 55 ∷ []
+  pub times-22 : timeCount ≡ 22
+  pub words-56 : wordCount ≡ 56
   -- sync is lost where the number is not 0
   pub not-lost : lostIn 0 ≡ false
   pub lost-by-1 : lostIn 1 ≡ true
@@ -66,7 +70,7 @@ pub record Table : Type 0 where
   pub count-65534 : countWord 65534 ≡ 65534
 
 table : Table
-unfolding timesOf wordsOf stateIn tabled part
+unfolding coreTimes coreWords timesOf wordsOf stateIn tabled part
 table =
     record {
       times-laid = refl;
@@ -74,6 +78,10 @@ table =
       read-back = refl;
       times-all = refl;
       words-all = refl;
+      time-places = refl;
+      word-places = refl;
+      times-22 = refl;
+      words-56 = refl;
       not-lost = refl;
       lost-by-1 = refl;
       lost-by-2 = refl;

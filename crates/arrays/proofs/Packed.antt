@@ -7,6 +7,7 @@ use Prim.Native.Nat.{ℕ, _<_}
 use native.Mathlib.Omega.{arith}
 use lib.Dec.{leb}
 use borrow.Author.Tests.{leb-true, leb-false}
+use Rattle.programmes.specs.Listing.{mostListed}
 use Rattle.calls.specs.declared.State.{State}
 use Rattle.calls.specs.Sound.{stateSound, byteSound}
 use Rattle.calls.specs.Calls.{packetWrong, tableWrong, roomWrong, timeWrong, stateWrong, orderWrong, packetRefusal, clockRefusal}
@@ -18,7 +19,7 @@ abbrev pub packed : State → State
 packed s = stateIn (timesOf s) (wordsOf s)
 
 -- a list that is too long is no sound state
-unsound-long : (s : State) (m : List ℕ) → 16 < s .core .count → stateSound s m ≡ false
+unsound-long : (s : State) (m : List ℕ) → mostListed < s .core .count → stateSound s m ≡ false
 unsound-long s m long = go (stateSound s m) refl
   where
     go : (b : Bool) → stateSound s m ≡ b → b ≡ false

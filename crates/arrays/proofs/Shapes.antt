@@ -11,11 +11,11 @@ use borrow.Author.Tests.{eqb-true, eqb-false, leb-true, leb-false}
 use Rattle.lists.proofs.Places.{front-length, part-length}
 use Rattle.lists.proofs.Tests.{or-false-right}
 use Rattle.watches.specs.declared.Entry.{Entry}
-use Rattle.watches.specs.Tables.{noEntry}
+use Rattle.watches.specs.Tables.{noEntry, fixedCount}
 use Rattle.header.specs.Header.{rightSync, pidOf}
 use Rattle.sections.specs.Rooms.{roomCount, patRoom}
 use Rattle.programmes.specs.declared.Listed.{Listed}
-use Rattle.programmes.specs.Listing.{mostListed, numberOf, entryPid, entriesOf, isNumber, pidUnusable, sinceOf, madeBad, listedWith, entered, readOn, noneListed, listOf}
+use Rattle.programmes.specs.Listing.{mostListed, numberOf, entryPid, entriesOf, isNumber, pidUnusable, entryFor, madeBad, listedWith, entered, readOn, noneListed, listOf}
 use Rattle.programmes.proofs.Moves.{halves-length}
 use Rattle.calls.specs.declared.Core.{Core}
 use Rattle.calls.specs.declared.State.{State}
@@ -25,16 +25,16 @@ use Rattle.calls.specs.Sound.{stateSound}
 use Rattle.calls.specs.Calls.{heldOf, packetRefusal, clockRefusal, packetCall, clockCall}
 use Rattle.calls.proofs.Moves.{Moves, packet-moves, sync-moves}
 use Rattle.calls.proofs.Accepted.{sound-parts, packet-accepted, clock-accepted, packet-call-accepted, packet-call-refused, clock-call-accepted, clock-call-refused}
-use Rattle.arrays.specs.Lent.{runIn, stateIn, Sized, Typed}
+use Rattle.arrays.specs.Lent.{runIn, stateIn, Sized, Typed, gapsAt, halvesAt, runAt}
 use Rattle.arrays.proofs.Back.{Shaped}
 use Rattle.arrays.proofs.Stores.{entries-length}
 
 record Fit (c : Core) : Type 0 where
-  gaps : length (c .since) ≡ 5
-  places : length (c .entries) ≡ 16
-  rooms : length (c .half) ≡ 21
+  gaps : length (c .since) ≡ fixedCount
+  places : length (c .entries) ≡ mostListed
+  rooms : length (c .half) ≡ roomCount
   run : c .run ≤ cond (c .lost) 4 1
-  count : c .count ≤ 16
+  count : c .count ≤ mostListed
 
 run-most : (lost : Bool) (run : ℕ) → run ≤ cond lost 4 1 → run ≤ 255
 run-most true run h = omega arith
@@ -53,19 +53,19 @@ fit-shaped s f =
 
 -- THE LIST in a section
 record ListFit (l : Listed) : Type 0 where
-  count : l .count ≤ 16
-  size : length (l .entries) ≡ 16
+  count : l .count ≤ mostListed
+  size : length (l .entries) ≡ mostListed
 
 entered-fit : (t : ℕ) (old : List Entry) (seen : List ℕ) (n q : ℕ) (l : Listed) → ListFit l → ListFit (entered t old seen n q l)
 entered-fit t old seen n q l f = go (eqb n 0) (pidUnusable q || (isNumber n seen || leb mostListed (l .count))) refl
   where
     go : (zero bad : Bool) → (pidUnusable q || (isNumber n seen || leb mostListed (l .count))) ≡ bad
-        → ListFit (cond zero l (cond bad (madeBad l) (listedWith (record { number = n; pid = q; since = sinceOf t old n q }) l)))
+        → ListFit (cond zero l (cond bad (madeBad l) (listedWith (entryFor t old n q) l)))
     go true bad e = f
     go false true e = record { count = f .count; size = f .size }
     go false false e =
         let free = leb-false mostListed (l .count) (or-false-right (isNumber n seen) (leb mostListed (l .count)) (or-false-right (pidUnusable q) (isNumber n seen || leb mostListed (l .count)) e)) in
-        record { count = omega (arith, free); size = length-set (l .entries) (l .count) (record { number = n; pid = q; since = sinceOf t old n q }) ∙ f .size }
+        record { count = omega (arith, free); size = length-set (l .entries) (l .count) (entryFor t old n q) ∙ f .size }
 
 read-fit : (t : ℕ) (old : List Entry) (seen : List ℕ) (l : Listed) (s : List ℕ) → ListFit l → ListFit (readOn t old seen l s)
 unfolding readOn
@@ -134,7 +134,7 @@ module _ (s : State) (z : Typed s) where
 
   -- steps 1 to 5 leave a short list and a short run
   pub packet-small : (t : ℕ) (p counters m : List ℕ) → stateSound s m ≡ true
-      → (step1 t p counters (heldOf s m) .held .core .count ≤ 16) × (step1 t p counters (heldOf s m) .held .core .run ≤ 4)
+      → (step1 t p counters (heldOf s m) .held .core .count ≤ mostListed) × (step1 t p counters (heldOf s m) .held .core .run ≤ 4)
   packet-small t p counters m sound =
       let c = step1 t p counters (heldOf s m) .held .core in
       let f = packet-fit t p counters (heldOf s m) (sound-fit m sound) in
@@ -167,9 +167,9 @@ opened-shaped t =
     record {
       typed =
           record {
-            gaps = length-replicate {A = ℕ} 5 t;
-            places = length-replicate {A = Entry} 16 noEntry;
-            rooms = length-replicate {A = ℕ} 21 0;
+            gaps = length-replicate {A = ℕ} fixedCount t;
+            places = length-replicate {A = Entry} mostListed noEntry;
+            rooms = length-replicate {A = ℕ} roomCount 0;
             run = omega arith;
           };
       count = omega arith;
@@ -180,10 +180,10 @@ pub held-typed : (times words : List ℕ) → Sized times words → Typed (state
 unfolding stateIn
 held-typed times words sized =
     record {
-      gaps = part-length times 1 5 (omega (arith, sized .long));
+      gaps = part-length times gapsAt fixedCount (omega (arith, sized .long));
       places = entries-length times words;
-      rooms = part-length words 32 21 (omega (arith, sized .wide));
-      run = run-held (getD words 54 0);
+      rooms = part-length words halvesAt roomCount (omega (arith, sized .wide));
+      run = run-held (getD words runAt 0);
     }
   where
     run-held : (w : ℕ) → runIn w ≤ 255

@@ -1,13 +1,16 @@
 -- The state as a host lends it: two arrays, by the width of their numbers (docs/DECISIONS.md, F8).
 --
---   timesOf s  == 22 times: the latest accepted time, the gap starts of the five fixed tables, those of the sixteen entries
---   wordsOf s  == 56 numbers: the entries' programme numbers, their PIDs, the 21 half-built lengths, lost (0 or 1), run, count
+--   latestAt, gapsAt, sincesAt == where the times of a state stand: the latest accepted time, the gap starts of the fixed tables, those of the entries
+--   numbersAt, pidsAt, halvesAt, lostAt, runAt, countAt == where its other numbers stand: the entries' programme numbers, their PIDs, the half-built
+--                 lengths, lost (0 or 1), run, count
+--   coreTimes s, coreWords s == these numbers, in this order; there are coreTimeCount and coreWordCount
+--   moreTimes c, moreWords c == what stands behind them: no number yet. Numbers that are new stand there, and the places before them do not move
+--   timesOf s, wordsOf s == the two arrays; they have timeCount and wordCount numbers
 --   lostWord, countWord == lost as a number; a length of the list above 65,535 is as wrong as that
 --   lostIn w, runIn w == sync is lost where the number is not 0; a run above 255 is as wrong as 255
 --   tabled f k n == f of the n numbers from k on
 --   syncLost, syncRun, gapsIn, countIn, entriesIn, halvesIn == the parts of the state that two such arrays hold; listedIn: the listed entries
 --   coreIn times words, stateIn times words == the state that they hold, without the latest accepted time and with it
---   withList n es c == the core c with n listed of the entries es
 --   Sized times words == both are as long as such arrays are
 --   LatestKept a b, SyncKept a b == what a core does not tell of the times b, and of the words b, is as it was in a: the latest accepted time; by
 --                 which numbers lost and run are told. Moved: both
@@ -21,14 +24,52 @@ use lib.Dec.{eqb, leb}
 use lib.ListN.{length, getD, take}
 use Rattle.lists.specs.Places.{part}
 use Rattle.watches.specs.declared.Entry.{Entry}
+use Rattle.watches.specs.Tables.{fixedCount}
+use Rattle.sections.specs.Rooms.{roomCount}
+use Rattle.programmes.specs.Listing.{mostListed}
 use Rattle.calls.specs.declared.Core.{Core}
 use Rattle.calls.specs.declared.State.{State}
 
+-- THE PLACES in the times, and how many there are
+abbrev pub latestAt : ℕ
+latestAt = 0
+
+abbrev pub gapsAt : ℕ
+gapsAt = 1
+
+abbrev pub sincesAt : ℕ
+sincesAt = gapsAt + fixedCount
+
+abbrev pub coreTimeCount : ℕ
+coreTimeCount = sincesAt + mostListed
+
 abbrev pub timeCount : ℕ
-timeCount = 22
+timeCount = coreTimeCount
+
+-- in the words
+abbrev pub numbersAt : ℕ
+numbersAt = 0
+
+abbrev pub pidsAt : ℕ
+pidsAt = numbersAt + mostListed
+
+abbrev pub halvesAt : ℕ
+halvesAt = pidsAt + mostListed
+
+abbrev pub lostAt : ℕ
+lostAt = halvesAt + roomCount
+
+abbrev pub runAt : ℕ
+runAt = lostAt + 1
+
+abbrev pub countAt : ℕ
+countAt = runAt + 1
+
+abbrev pub coreWordCount : ℕ
+coreWordCount = countAt + 1
 
 abbrev pub wordCount : ℕ
-wordCount = 56
+wordCount = coreWordCount
 
 -- TO THE ARRAYS
 abbrev pub lostWord : Bool → ℕ
@@ -37,14 +78,26 @@ lostWord lost = cond lost 1 0
 abbrev pub countWord : ℕ → ℕ
 countWord n = cond (leb n 65535) n 65535
 
-unfoldable pub timesOf : State → List ℕ
-timesOf s = s .latest ∷ (s .core .since ++ map (λ (e : Entry). e .since) (s .core .entries))
+unfoldable pub coreTimes : State → List ℕ
+coreTimes s = s .latest ∷ (s .core .since ++ map (λ (e : Entry). e .since) (s .core .entries))
 
-unfoldable pub wordsOf : State → List ℕ
-wordsOf s =
+abbrev pub moreTimes : Core → List ℕ
+moreTimes c = []
+
+unfoldable pub timesOf : State → List ℕ
+timesOf s = coreTimes s ++ moreTimes (s .core)
+
+unfoldable pub coreWords : State → List ℕ
+coreWords s =
     map (λ (e : Entry). e .number) (s .core .entries)
     ++ (map (λ (e : Entry). e .pid) (s .core .entries)
     ++ (s .core .half ++ (lostWord (s .core .lost) ∷ s .core .run ∷ countWord (s .core .count) ∷ [])))
+
+abbrev pub moreWords : Core → List ℕ
+moreWords c = []
+
+unfoldable pub wordsOf : State → List ℕ
+wordsOf s = coreWords s ++ moreWords (s .core)
 
 -- FROM THEM
 abbrev pub lostIn : ℕ → Bool
@@ -58,28 +111,28 @@ tabled f k zero = []
 tabled f k (suc n) = f k ∷ tabled f (suc k) n
 
 abbrev pub entryIn : List ℕ → List ℕ → ℕ → Entry
-entryIn times words k = record { number = getD words k 0; pid = getD words (16 + k) 0; since = getD times (6 + k) 0 }
+entryIn times words k = record { number = getD words (numbersAt + k) 0; pid = getD words (pidsAt + k) 0; since = getD times (sincesAt + k) 0 }
 
 abbrev pub syncLost : List ℕ → Bool
-syncLost words = lostIn (getD words 53 0)
+syncLost words = lostIn (getD words lostAt 0)
 
 abbrev pub syncRun : List ℕ → ℕ
-syncRun words = runIn (getD words 54 0)
+syncRun words = runIn (getD words runAt 0)
 
 abbrev pub gapsIn : List ℕ → List ℕ
-gapsIn times = part times 1 5
+gapsIn times = part times gapsAt fixedCount
 
 abbrev pub countIn : List ℕ → ℕ
-countIn words = getD words 55 0
+countIn words = getD words countAt 0
 
 abbrev pub entriesIn : List ℕ → List ℕ → List Entry
-entriesIn times words = tabled (entryIn times words) 0 16
+entriesIn times words = tabled (entryIn times words) 0 mostListed
 
 abbrev pub listedIn : List ℕ → List ℕ → List Entry
 listedIn times words = take (countIn words) (entriesIn times words)
 
 abbrev pub halvesIn : List ℕ → List ℕ
-halvesIn words = part words 32 21
+halvesIn words = part words halvesAt roomCount
 
 abbrev pub coreIn : List ℕ → List ℕ → Core
 coreIn times words =
@@ -93,11 +146,7 @@ coreIn times words =
     }
 
 unfoldable pub stateIn : List ℕ → List ℕ → State
-stateIn times words = record { latest = getD times 0 0; core = coreIn times words }
-
--- A LIST laid into them
-abbrev pub withList : ℕ → List Entry → Core → Core
-withList n es c = record { lost = c .lost; run = c .run; since = c .since; count = n; entries = es; half = c .half }
+stateIn times words = record { latest = getD times latestAt 0; core = coreIn times words }
 
 pub record Sized (times words : List ℕ) : Type 0 where
   pub long : length times ≡ timeCount
@@ -106,12 +155,12 @@ pub record Sized (times words : List ℕ) : Type 0 where
 -- WHAT A CORE DOES NOT TELL
 pub record LatestKept (a b : List ℕ) : Type 0 where
   pub long : length b ≡ timeCount
-  pub latest : getD b 0 0 ≡ getD a 0 0
+  pub latest : getD b latestAt 0 ≡ getD a latestAt 0
 
 pub record SyncKept (a b : List ℕ) : Type 0 where
   pub wide : length b ≡ wordCount
-  pub lost : getD b 53 0 ≡ getD a 53 0
-  pub run : getD b 54 0 ≡ getD a 54 0
+  pub lost : getD b lostAt 0 ≡ getD a lostAt 0
+  pub run : getD b runAt 0 ≡ getD a runAt 0
 
 pub record Moved (times₀ words₀ times₁ words₁ : List ℕ) : Type 0 where
   pub times : LatestKept times₀ times₁
@@ -119,11 +168,11 @@ pub record Moved (times₀ words₀ times₁ words₁ : List ℕ) : Type 0 where
 
 pub record SyncTold (words : List ℕ) : Type 0 where
   pub wide : length words ≡ wordCount
-  pub lost : getD words 53 0 ≡ lostWord (syncLost words)
-  pub run : getD words 54 0 ≡ syncRun words
+  pub lost : getD words lostAt 0 ≡ lostWord (syncLost words)
+  pub run : getD words runAt 0 ≡ syncRun words
 
 pub record Typed (s : State) : Type 0 where
-  pub gaps : length (s .core .since) ≡ 5
-  pub places : length (s .core .entries) ≡ 16
-  pub rooms : length (s .core .half) ≡ 21
+  pub gaps : length (s .core .since) ≡ fixedCount
+  pub places : length (s .core .entries) ≡ mostListed
+  pub rooms : length (s .core .half) ≡ roomCount
   pub run : s .core .run ≤ 255

@@ -18,14 +18,19 @@ pub use moves::set_sync;
 pub use moves::settle;
 pub use moves::sync_lost;
 pub use moves::sync_run;
+use programmes::MOST_LISTED;
+use sections::ROOMS;
 use watches::Entry;
+use watches::FIXED;
 ghost use mathlib.Core.Path.{_≡_};
-ghost use Prim.Native.Nat.{_<_, _≤_};
+ghost use Prim.Native.Nat.{_+_, _<_, _≤_};
 ghost use mathlib.Core.List.{[], _∷_, map};
 ghost use lib.ListN.{length};
 ghost use lib.Seq.{sets};
-ghost use Rattle.lists.specs.Places.{part};
-ghost use Rattle.arrays.specs.Lent.{timeCount, wordCount, lostWord, countWord, runIn, tabled, entryIn, timesOf, wordsOf, stateIn, Typed};
+ghost use Rattle.watches.specs.Tables.{fixedCount};
+ghost use Rattle.sections.specs.Rooms.{roomCount};
+ghost use Rattle.programmes.specs.Listing.{mostListed};
+ghost use Rattle.arrays.specs.Lent.{timeCount, wordCount, lostWord, countWord, runIn, gapsIn, halvesIn, entryIn, entriesIn, timesOf, wordsOf, stateIn, Typed, gapsAt, sincesAt, numbersAt, pidsAt, halvesAt, lostAt, coreTimeCount, coreWordCount};
 
 // What a host is told of a call: the refusal number (0: accepted) and the number of events.
 #[repr(C)]
@@ -34,22 +39,31 @@ pub struct Reply {
     pub n: usize,
 }
 
-// where the numbers of a state stand in the two arrays
+// Where the times of a state stand in the first of the two arrays that a host lends, and how many there are: the latest
+// accepted time, the gap starts of the fixed tables, those of the list's places.
+pub const LATEST: usize = 0;
+
 const GAPS: usize = 1;
 
-const SINCES: usize = 6;
+const SINCES: usize = GAPS + FIXED;
 
+pub const TIMES: usize = SINCES + MOST_LISTED;
+
+// The other numbers, in the second one: programme numbers and PIDs of the list's places, half-built lengths, lost, run, and
+// the length of the list.
 const NUMBERS: usize = 0;
 
-const PIDS: usize = 16;
+const PIDS: usize = NUMBERS + MOST_LISTED;
 
-const HALVES: usize = 32;
+const HALVES: usize = PIDS + MOST_LISTED;
 
-const LOST: usize = 53;
+const LOST: usize = HALVES + ROOMS;
 
-const RUN: usize = 54;
+const RUN: usize = LOST + 1;
 
-const COUNT: usize = 55;
+const COUNT: usize = RUN + 1;
+
+pub const WORDS: usize = COUNT + 1;
 
 fn times_in(s: &[u64]) -> usize
     ensures { λ r. ⌜ r ≡ length (now (s .entry)) ⌝ }
@@ -64,26 +78,26 @@ fn words_in(s: &[u16]) -> usize
 }
 
 // The arrays have their lengths by their types: a call of these shows it.
-pub fn time_count(times: &[u64; 22]) -> usize
+pub fn time_count(times: &[u64; TIMES]) -> usize
     ensures { λ r. ⌜ (r ≡ timeCount) × (length (now (times .entry)) ≡ timeCount) ⌝ }
 {
     times_in(times)
 }
 
-pub fn word_count(words: &[u16; 56]) -> usize
+pub fn word_count(words: &[u16; WORDS]) -> usize
     ensures { λ r. ⌜ (r ≡ wordCount) × (length (now (words .entry)) ≡ wordCount) ⌝ }
 {
     words_in(words)
 }
 
 // The gap starts of the fixed tables.
-fn gaps_in(times: &[u64]) -> [u64; 5]
-    requires { ⌜ length (now times) ≡ timeCount ⌝ }
-    ensures { λ r. ⌜ r ≡ part (now (times .entry)) 1 5 ⌝ }
+fn gaps_in(times: &[u64]) -> [u64; FIXED]
+    requires { ⌜ coreTimeCount ≤ length (now times) ⌝ }
+    ensures { λ r. ⌜ r ≡ gapsIn (now (times .entry)) ⌝ }
 {
-    let mut out = [0u64; 5];
+    let mut out = [0u64; FIXED];
     let mut k: usize = 0;
-    while k < 5 {
+    while k < FIXED {
         out[k] = times[GAPS + k];
         k += 1;
     }
@@ -91,13 +105,13 @@ fn gaps_in(times: &[u64]) -> [u64; 5]
 }
 
 // The half-built lengths.
-pub fn halves_in(words: &[u16]) -> [u16; 21]
-    requires { ⌜ length (now words) ≡ wordCount ⌝ }
-    ensures { λ r. ⌜ r ≡ part (now (words .entry)) 32 21 ⌝ }
+pub fn halves_in(words: &[u16]) -> [u16; ROOMS]
+    requires { ⌜ coreWordCount ≤ length (now words) ⌝ }
+    ensures { λ r. ⌜ r ≡ halvesIn (now (words .entry)) ⌝ }
 {
-    let mut out = [0u16; 21];
+    let mut out = [0u16; ROOMS];
     let mut k: usize = 0;
-    while k < 21 {
+    while k < ROOMS {
         out[k] = words[HALVES + k];
         k += 1;
     }
@@ -106,11 +120,11 @@ pub fn halves_in(words: &[u16]) -> [u16; 21]
 
 // The entry at a place.
 pub fn entry_at(times: &[u64], words: &[u16], k: usize) -> Entry
-    requires { ⌜ (length (now times) ≡ timeCount) × (length (now words) ≡ wordCount) × (k < 16) ⌝ }
+    requires { ⌜ (coreTimeCount ≤ length (now times)) × (coreWordCount ≤ length (now words)) × (k < mostListed) ⌝ }
     ensures { λ r. ⌜ r ≡ entryIn (now (times .entry)) (now (words .entry)) k ⌝ }
 {
     Entry {
-        number: words[k],
+        number: words[NUMBERS + k],
         pid: words[PIDS + k],
         since: times[SINCES + k],
     }
@@ -118,33 +132,33 @@ pub fn entry_at(times: &[u64], words: &[u16], k: usize) -> Entry
 
 // How many of the entries are listed.
 fn listed_in(words: &[u16]) -> usize
-    requires { ⌜ length (now words) ≡ wordCount ⌝ }
-    ensures { λ r. ⌜ r ≤ 16 ⌝ }
+    requires { ⌜ coreWordCount ≤ length (now words) ⌝ }
+    ensures { λ r. ⌜ r ≤ mostListed ⌝ }
 {
-    if words[COUNT] <= 16 {
+    if size_of(words[COUNT]) <= MOST_LISTED {
         return size_of(words[COUNT]);
     }
-    16
+    MOST_LISTED
 }
 
 // The sixteen entries, the listed ones first: a loop whose length the compiler does not know keeps the
 // entries together in memory.
-pub fn entries_in(times: &[u64], words: &[u16]) -> [Entry; 16]
-    requires { ⌜ (length (now times) ≡ timeCount) × (length (now words) ≡ wordCount) ⌝ }
-    ensures { λ r. ⌜ r ≡ tabled (entryIn (now (times .entry)) (now (words .entry))) 0 16 ⌝ }
+pub fn entries_in(times: &[u64], words: &[u16]) -> [Entry; MOST_LISTED]
+    requires { ⌜ (coreTimeCount ≤ length (now times)) × (coreWordCount ≤ length (now words)) ⌝ }
+    ensures { λ r. ⌜ r ≡ entriesIn (now (times .entry)) (now (words .entry)) ⌝ }
 {
     let mut out = [Entry {
         number: 0,
         pid: 0,
         since: 0,
-    }; 16];
+    }; MOST_LISTED];
     let n = listed_in(words);
     let mut k: usize = 0;
     while k < n {
         out[k] = entry_at(times, words, k);
         k += 1;
     }
-    while k < 16 {
+    while k < MOST_LISTED {
         out[k] = entry_at(times, words, k);
         k += 1;
     }
@@ -168,10 +182,10 @@ fn size_of(w: u16) -> usize
 }
 
 // A state by value has by its types how many places its arrays have, and a run that a byte holds: a call of these shows it.
-fn sizes(since: [u64; 5], entries: [Entry; 16], half: [u16; 21]) -> usize
-    ensures { λ r. ⌜ (r ≡ 42) × (length since ≡ 5) × (length entries ≡ 16) × (length half ≡ 21) ⌝ }
+fn sizes(since: [u64; FIXED], entries: [Entry; MOST_LISTED], half: [u16; ROOMS]) -> usize
+    ensures { λ r. ⌜ (r ≡ fixedCount + mostListed + roomCount) × (length since ≡ fixedCount) × (length entries ≡ mostListed) × (length half ≡ roomCount) ⌝ }
 {
-    42
+    FIXED + MOST_LISTED + ROOMS
 }
 
 fn in_a_byte(run: u8) -> u8
@@ -181,7 +195,7 @@ fn in_a_byte(run: u8) -> u8
 }
 
 pub fn typed(state: State) -> usize
-    ensures { λ r. ⌜ (r ≡ 42) × Typed state ⌝ }
+    ensures { λ r. ⌜ (r ≡ fixedCount + mostListed + roomCount) × Typed state ⌝ }
 {
     let since = state.core.since;
     let entries = state.core.entries;
@@ -191,13 +205,13 @@ pub fn typed(state: State) -> usize
 }
 
 // The state that two arrays hold.
-pub fn state_in(times: &[u64; 22], words: &[u16; 56]) -> State
+pub fn state_in(times: &[u64; TIMES], words: &[u16; WORDS]) -> State
     ensures { λ r. ⌜ r ≡ stateIn (now (times .entry)) (now (words .entry)) ⌝ }
 {
     let t = time_count(times);
     let w = word_count(words);
     State {
-        latest: times[0],
+        latest: times[LATEST],
         core: Core {
             lost: words[LOST] != 0,
             run: run_in(words[RUN]),
@@ -210,24 +224,24 @@ pub fn state_in(times: &[u64; 22], words: &[u16; 56]) -> State
 }
 
 // The gap starts of the fixed tables, laid into the times.
-fn lay_gaps(times: &mut [u64], since: [u64; 5])
+fn lay_gaps(times: &mut [u64], since: [u64; FIXED])
     requires { ⌜ length (now times) ≡ timeCount ⌝ }
-    ensures { λ _. ⌜ now (times .exit) ≡ sets (now (times .entry)) 1 since ⌝ }
+    ensures { λ _. ⌜ now (times .exit) ≡ sets (now (times .entry)) gapsAt since ⌝ }
 {
     let mut k: usize = 0;
-    while k < 5 {
+    while k < FIXED {
         times[GAPS + k] = since[k];
         k += 1;
     }
 }
 
 // Those of the entries.
-fn lay_sinces(times: &mut [u64], entries: [Entry; 16])
+fn lay_sinces(times: &mut [u64], entries: [Entry; MOST_LISTED])
     requires { ⌜ length (now times) ≡ timeCount ⌝ }
-    ensures { λ _. ⌜ (now (times .exit) ≡ sets (now (times .entry)) 6 (map (λ e. e .since) entries)) × (length entries ≡ 16) ⌝ }
+    ensures { λ _. ⌜ (now (times .exit) ≡ sets (now (times .entry)) sincesAt (map (λ e. e .since) entries)) × (length entries ≡ mostListed) ⌝ }
 {
     let mut k: usize = 0;
-    while k < 16 {
+    while k < MOST_LISTED {
         let e = entries[k];
         times[SINCES + k] = e.since;
         k += 1;
@@ -235,12 +249,12 @@ fn lay_sinces(times: &mut [u64], entries: [Entry; 16])
 }
 
 // The programme numbers of the entries, laid into the words.
-fn lay_numbers(words: &mut [u16], entries: [Entry; 16])
+fn lay_numbers(words: &mut [u16], entries: [Entry; MOST_LISTED])
     requires { ⌜ length (now words) ≡ wordCount ⌝ }
-    ensures { λ _. ⌜ (now (words .exit) ≡ sets (now (words .entry)) 0 (map (λ e. e .number) entries)) × (length entries ≡ 16) ⌝ }
+    ensures { λ _. ⌜ (now (words .exit) ≡ sets (now (words .entry)) numbersAt (map (λ e. e .number) entries)) × (length entries ≡ mostListed) ⌝ }
 {
     let mut k: usize = 0;
-    while k < 16 {
+    while k < MOST_LISTED {
         let e = entries[k];
         words[NUMBERS + k] = e.number;
         k += 1;
@@ -248,12 +262,12 @@ fn lay_numbers(words: &mut [u16], entries: [Entry; 16])
 }
 
 // Their PIDs.
-fn lay_pids(words: &mut [u16], entries: [Entry; 16])
+fn lay_pids(words: &mut [u16], entries: [Entry; MOST_LISTED])
     requires { ⌜ length (now words) ≡ wordCount ⌝ }
-    ensures { λ _. ⌜ now (words .exit) ≡ sets (now (words .entry)) 16 (map (λ e. e .pid) entries) ⌝ }
+    ensures { λ _. ⌜ now (words .exit) ≡ sets (now (words .entry)) pidsAt (map (λ e. e .pid) entries) ⌝ }
 {
     let mut k: usize = 0;
-    while k < 16 {
+    while k < MOST_LISTED {
         let e = entries[k];
         words[PIDS + k] = e.pid;
         k += 1;
@@ -261,12 +275,12 @@ fn lay_pids(words: &mut [u16], entries: [Entry; 16])
 }
 
 // The half-built lengths.
-pub fn lay_halves(words: &mut [u16], half: [u16; 21])
+pub fn lay_halves(words: &mut [u16], half: [u16; ROOMS])
     requires { ⌜ length (now words) ≡ wordCount ⌝ }
-    ensures { λ _. ⌜ (now (words .exit) ≡ sets (now (words .entry)) 32 half) × (length half ≡ 21) ⌝ }
+    ensures { λ _. ⌜ (now (words .exit) ≡ sets (now (words .entry)) halvesAt half) × (length half ≡ roomCount) ⌝ }
 {
     let mut k: usize = 0;
-    while k < 21 {
+    while k < ROOMS {
         words[HALVES + k] = half[k];
         k += 1;
     }
@@ -277,7 +291,7 @@ pub fn lay_times(state: State, times: &mut [u64])
     requires { ⌜ length (now times) ≡ timeCount ⌝ }
     ensures { λ _. ⌜ now (times .exit) ≡ timesOf state ⌝ }
 {
-    times[0] = state.latest;
+    times[LATEST] = state.latest;
     let since = state.core.since;
     lay_gaps(times, since);
     let entries = state.core.entries;
@@ -305,7 +319,7 @@ fn count_word(count: usize) -> u16
 // Sync and the length of the list, laid behind the rest.
 fn lay_marks(words: &mut [u16], lost: u16, run: u16, count: u16)
     requires { ⌜ length (now words) ≡ wordCount ⌝ }
-    ensures { λ _. ⌜ now (words .exit) ≡ sets (now (words .entry)) 53 (lost ∷ run ∷ count ∷ []) ⌝ }
+    ensures { λ _. ⌜ now (words .exit) ≡ sets (now (words .entry)) lostAt (lost ∷ run ∷ count ∷ []) ⌝ }
 {
     words[LOST] = lost;
     words[RUN] = run;

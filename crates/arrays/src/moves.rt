@@ -2,27 +2,30 @@
 use crate::COUNT;
 use crate::GAPS;
 use crate::HALVES;
+use crate::LATEST;
 use crate::LOST;
 use crate::PIDS;
 use crate::RUN;
 use crate::SINCES;
+use programmes::MOST_LISTED;
+use sections::ROOMS;
 use watches::Entry;
 ghost use mathlib.Core.Path.{_≡_};
 ghost use Prim.Native.Nat.{_≤_, _<_};
 ghost use mathlib.Core.List.{List};
 ghost use Prim.Native.Nat.{ℕ};
 ghost use lib.ListN.{length, set, replicate};
+ghost use Rattle.watches.specs.Tables.{fixedCount};
 ghost use Rattle.sections.specs.Rooms.{roomCount};
 ghost use Rattle.programmes.specs.Listing.{mostListed};
 ghost use Rattle.programmes.specs.Places.{placeOf, halfAt};
-ghost use Rattle.calls.specs.Cores.{withHalf};
-ghost use Rattle.calls.specs.Sync.{withSync};
+ghost use Rattle.calls.specs.Cores.{withHalf, withSync, withList};
 ghost use Rattle.calls.specs.Steps.{touched, arrivedTable, arrivedProgramme};
-ghost use Rattle.arrays.specs.Lent.{timeCount, wordCount, syncLost, syncRun, gapsIn, countIn, listedIn, halvesIn, coreIn, withList, timesOf, wordsOf, LatestKept, SyncKept, Moved, SyncTold};
+ghost use Rattle.arrays.specs.Lent.{timeCount, wordCount, syncLost, syncRun, gapsIn, countIn, listedIn, halvesIn, coreIn, timesOf, wordsOf, LatestKept, SyncKept, Moved, SyncTold, coreTimeCount, coreWordCount};
 
 // Whether sync is lost.
 pub fn sync_lost(words: &[u16]) -> bool
-    requires { ⌜ length (now words) ≡ wordCount ⌝ }
+    requires { ⌜ coreWordCount ≤ length (now words) ⌝ }
     ensures { λ r. ⌜ r ≡ syncLost (now (words .entry)) ⌝ }
 {
     words[LOST] != 0
@@ -30,7 +33,7 @@ pub fn sync_lost(words: &[u16]) -> bool
 
 // The run of sync bytes.
 pub fn sync_run(words: &[u16]) -> u8
-    requires { ⌜ length (now words) ≡ wordCount ⌝ }
+    requires { ⌜ coreWordCount ≤ length (now words) ⌝ }
     ensures { λ r. ⌜ r ≡ syncRun (now (words .entry)) ⌝ }
 {
     crate::run_in(words[RUN])
@@ -38,7 +41,7 @@ pub fn sync_run(words: &[u16]) -> u8
 
 // How many programmes are listed.
 pub fn count_in(words: &[u16]) -> usize
-    requires { ⌜ length (now words) ≡ wordCount ⌝ }
+    requires { ⌜ coreWordCount ≤ length (now words) ⌝ }
     ensures { λ r. ⌜ r ≡ countIn (now (words .entry)) ⌝ }
 {
     crate::size_of(words[COUNT])
@@ -46,7 +49,7 @@ pub fn count_in(words: &[u16]) -> usize
 
 // The gap starts of the fixed tables, where they stand.
 pub fn gaps_of(times: &[u64]) -> &[u64]
-    requires { ⌜ length (now times) ≡ timeCount ⌝ }
+    requires { ⌜ coreTimeCount ≤ length (now times) ⌝ }
     ensures { λ r. ⌜ now r ≡ gapsIn (now (times .entry)) ⌝ }
 {
     &times[GAPS..SINCES]
@@ -54,7 +57,7 @@ pub fn gaps_of(times: &[u64]) -> &[u64]
 
 // The half-built lengths, where they stand.
 pub fn halves_of(words: &[u16]) -> &[u16]
-    requires { ⌜ length (now words) ≡ wordCount ⌝ }
+    requires { ⌜ coreWordCount ≤ length (now words) ⌝ }
     ensures { λ r. ⌜ now r ≡ halvesIn (now (words .entry)) ⌝ }
 {
     &words[HALVES..LOST]
@@ -62,7 +65,7 @@ pub fn halves_of(words: &[u16]) -> &[u16]
 
 // The half-built length of a room.
 pub fn half_in(words: &[u16], room: usize) -> u16
-    requires { ⌜ (length (now words) ≡ wordCount) × (room < roomCount) ⌝ }
+    requires { ⌜ (coreWordCount ≤ length (now words)) × (room < roomCount) ⌝ }
     ensures { λ r. ⌜ r ≡ halfAt (halvesIn (now (words .entry))) room ⌝ }
 {
     words[HALVES + room]
@@ -70,7 +73,7 @@ pub fn half_in(words: &[u16], room: usize) -> u16
 
 // The first place of the list with a PID, or the length of the list where there is none.
 pub fn place_in(words: &[u16], pid: u16) -> usize
-    requires { ⌜ (length (now words) ≡ wordCount) × (countIn (now words) ≤ mostListed) ⌝ }
+    requires { ⌜ (coreWordCount ≤ length (now words)) × (countIn (now words) ≤ mostListed) ⌝ }
     ensures { λ r. ⌜ ((times : List ℕ) → r ≡ placeOf pid (listedIn times (now (words .entry)))) ⌝ }
 {
     let count = count_in(words);
@@ -109,12 +112,12 @@ pub fn drop_all(words: &mut [u16])
     ensures { λ _. ⌜ ((times : List ℕ) → coreIn times (now (words .exit)) ≡ withHalf (replicate roomCount 0) (coreIn times (now (words .entry))))
         × SyncKept (now (words .entry)) (now (words .exit)) ⌝ }
 {
-    crate::lay_halves(words, [0; 21]);
+    crate::lay_halves(words, [0; ROOMS]);
 }
 
 // A good section of a fixed table ends its gap.
 pub fn end_gap(times: &mut [u64], room: usize, time: u64)
-    requires { ⌜ (length (now times) ≡ timeCount) × (room < 5) ⌝ }
+    requires { ⌜ (length (now times) ≡ timeCount) × (room < fixedCount) ⌝ }
     ensures { λ _. ⌜ ((words : List ℕ) → coreIn (now (times .exit)) words ≡ arrivedTable time room (coreIn (now (times .entry)) words))
         × LatestKept (now (times .entry)) (now (times .exit)) ⌝ }
 {
@@ -147,7 +150,7 @@ pub fn end_pair(times: &mut [u64], words: &[u16], number: u16, pid: u16, time: u
 }
 
 // A list: sixteen entries, of which the first `count` are listed.
-pub fn lay_list(times: &mut [u64], words: &mut [u16], entries: [Entry; 16], count: usize)
+pub fn lay_list(times: &mut [u64], words: &mut [u16], entries: [Entry; MOST_LISTED], count: usize)
     requires { ⌜ (length (now times) ≡ timeCount) × (length (now words) ≡ wordCount) × (count ≤ mostListed) ⌝ }
     ensures { λ _. ⌜ (coreIn (now (times .exit)) (now (words .exit)) ≡ withList count entries (coreIn (now (times .entry)) (now (words .entry))))
         × Moved (now (times .entry)) (now (words .entry)) (now (times .exit)) (now (words .exit)) ⌝ }
@@ -164,6 +167,6 @@ pub fn settle(times: &mut [u64], words: &mut [u16], time: u64)
     ensures { λ _. ⌜ (now (times .exit) ≡ timesOf (record { latest = time; core = coreIn (now (times .entry)) (now (words .entry)) }))
         × (now (words .exit) ≡ wordsOf (record { latest = time; core = coreIn (now (times .entry)) (now (words .entry)) })) ⌝ }
 {
-    times[0] = time;
+    times[LATEST] = time;
     words[LOST] = crate::lost_word(words[LOST] != 0);
 }

@@ -10,18 +10,19 @@ use lib.ListN.{length, getD, length-take, List·getD-eq-default}
 use lib.Seq.{getD-take}
 use borrow.Author.Tests.{ltb-false, leb-true, eqb-true, eqb-false, le-ltb, le-leb, eq-eqb, ne-eqb, not-true}
 use Rattle.lists.proofs.Tests.{and-left, and-right, and-intro, Order, below, from, order}
+use Rattle.events.specs.Room.{leastRoom}
 use Rattle.watches.specs.declared.Entry.{Entry}
 use Rattle.watches.specs.Tables.{noEntry, latestTime}
 use Rattle.header.specs.Header.{packetSize}
-use Rattle.sections.specs.Rooms.{roomCount, greatestLength, halfBuilt}
 use Rattle.sections.specs.Section.{stageOf, isMore}
 use Rattle.sections.proofs.Jobs.{empty-more}
-use Rattle.programmes.specs.Listing.{mostListed, lowestPid}
+use Rattle.sections.specs.Rooms.{roomCount, greatestLength, halfBuilt}
 use Rattle.programmes.specs.Places.{halfAt}
+use Rattle.programmes.specs.Listing.{mostListed, lowestPid}
 use Rattle.calls.specs.declared.State.{State}
 use Rattle.calls.specs.Cores.{listed}
 use Rattle.calls.specs.Sound.{greatestPid, timeSound, timesSound, numberAmong, entrySound, entriesSound, runSound, roomSound, roomsFrom, roomsSound, stateSound, byteSound}
-use Rattle.calls.specs.Calls.{Result, tableSize, leastRoom, openRefusal, packetRefusal, clockRefusal, refusedWith, acceptedPacket, acceptedClock, packetCall, clockCall}
+use Rattle.calls.specs.Calls.{Result, tableSize, openRefusal, packetRefusal, clockRefusal, refusedWith, acceptedPacket, acceptedClock, packetCall, clockCall}
 
 -- A RUNG that is passed on the way to 0
 rung-right : (b : Bool) (n next : ℕ) → cond b next (suc n) ≡ 0 → (b ≡ true) × (next ≡ 0)
@@ -301,8 +302,8 @@ sound-parts s m e =
     let d = entriesSound (listed (s .core)) in
     let f = runSound (s .core) in
     let g = roomsSound (s .core .half) m in
-    let abcdf = and-left (a && b && c && d && f) g e in
-    let abcd = and-left (a && b && c && d) f abcdf in
+    let abcd = and-left (a && b && c && d) (f && g) e in
+    let fg = and-right (a && b && c && d) (f && g) e in
     let abc = and-left (a && b && c) d abcd in
     let ab = and-left (a && b) c abc in
     record {
@@ -310,8 +311,8 @@ sound-parts s m e =
       since = times-at (s .core .since) (and-right a b ab);
       count = leb-true (s .core .count) mostListed (and-right (a && b) c abc);
       entries = entries-parts (listed (s .core)) (and-right (a && b && c) d abcd);
-      run = leb-true (s .core .run) (cond (s .core .lost) 4 1) (and-right (a && b && c && d) f abcdf);
-      rooms = λ r h. rooms-at (s .core .half) m 0 roomCount (and-right (a && b && c && d && f) g e) r (omega arith) h;
+      run = leb-true (s .core .run) (cond (s .core .lost) 4 1) (and-left f g fg);
+      rooms = λ r h. rooms-at (s .core .half) m 0 roomCount (and-right f g fg) r (omega arith) h;
     }
 
 pub sound-whole : (s : State) (m : List ℕ) → Sound s m → stateSound s m ≡ true

@@ -2,10 +2,11 @@
 use mathlib.Core.Path.{_≡_, refl}
 use mathlib.Core.Bool.{true, false}
 use mathlib.Core.List.{List, [], _∷_, _++_}
-use Prim.Native.Nat.{ℕ, suc, _^_}
+use Prim.Native.Nat.{ℕ, suc, _^_, _-_}
 use lib.ListN.{getD, replicate}
 use Rattle.lists.specs.Places.{part}
 use Rattle.events.specs.Events.{eventAt}
+use Rattle.events.specs.Room.{leastRoom}
 use Rattle.watches.specs.declared.Entry.{Entry}
 use Rattle.header.specs.Header.{headerOf}
 use Rattle.continuity.specs.Continuity.{countedOf}
@@ -14,8 +15,8 @@ use Rattle.sections.specs.Building.{fed, built}
 use Rattle.sections.specs.Outcomes.{crcWrong, wholeOutcome}
 use Rattle.programmes.specs.Listing.{readOn, listOf}
 use Rattle.programmes.specs.Places.{placeOf}
-use Rattle.calls.specs.Cores.{Held, fixedRoom, roomFor, opened, openedState}
-use Rattle.calls.specs.Sync.{syncedOf, withSync}
+use Rattle.calls.specs.Cores.{Held, fixedRoom, roomFor, opened, openedState, withSync}
+use Rattle.calls.specs.Sync.{syncedOf}
 use Rattle.calls.specs.Steps.{touched, listEvents, absorbedAll, sectionsTaken, step1}
 use Rattle.calls.specs.Calls.{packetRefusal}
 
@@ -42,7 +43,7 @@ pub record Table : Type 0 where
   pub fifth-right-byte : syncedOf true (withSync true 4 (opened 0)) .further ≡ true
   pub second-wrong-byte : syncedOf false (withSync false 1 (opened 0)) .faults ≡ 0x000D ∷ 0x000C ∷ []
   pub spare-byte-in-a-list : listEvents 9 0 0 (replicate 13 0x00) (opened 0) ≡ eventAt 9 0x0009 4 0x0000 ∷ []
-  pub three-before-four : packetRefusal (openedState 0) (suc (2 ^ 62)) (replicate 188 0) (replicate 8192 0) [] 95 ≡ 3
+  pub three-before-four : packetRefusal (openedState 0) (suc (2 ^ 62)) (replicate 188 0) (replicate 8192 0) [] (leastRoom - 1) ≡ 3
 
 pub table : Table
 unfolding part headerOf countedOf stageOf fed built crcWrong wholeOutcome readOn listOf placeOf fixedRoom roomFor absorbedAll sectionsTaken step1 packetRefusal

@@ -22,8 +22,8 @@ use Rattle.sections.specs.Building.{Finished}
 use Rattle.sections.specs.Outcomes.{isPmtRoom, outcomeOf}
 use Rattle.programmes.specs.Listing.{nullPid}
 use Rattle.calls.specs.declared.Core.{Core}
-use Rattle.calls.specs.Cores.{Held, withHalf, roomFor, droppedRoom}
-use Rattle.calls.specs.Sync.{Synced, withSync, lostNow, inSync, whileLost, syncedOf}
+use Rattle.calls.specs.Cores.{Held, withHalf, roomFor, droppedRoom, withSync}
+use Rattle.calls.specs.Sync.{Synced, lostNow, inSync, whileLost, syncedOf}
 use Rattle.calls.specs.Steps.{Step, arrivedTable, arrivedProgramme, relisted, arrivedIn, bytesOf, absorbedBy, absorbed, absorbedAll, builtIn, jobOf, sectionsTaken, payloadTaken, counted, step5, step4, step3, step2, step1}
 
 -- WHERE NOTHING IS BUILT, nothing is dropped

@@ -13,6 +13,7 @@ use mathlib.Core.List.{List, [], _++_}
 use lib.Dec.{ltb, eqb}
 use lib.ListN.{length, drop, replicate}
 use Rattle.events.specs.declared.Event.{Event}
+use Rattle.events.specs.Room.{leastRoom}
 use Rattle.header.specs.Header.{packetSize}
 use Rattle.calls.specs.declared.State.{State}
 use Rattle.calls.specs.declared.Answer.{Answer}
@@ -29,9 +30,6 @@ pub record Result : Type 0 where
 
 abbrev pub tableSize : ℕ
 tableSize = 8192
-
-abbrev pub leastRoom : ℕ
-leastRoom = 96
 
 -- each rung: the number where its condition holds, else the next
 abbrev pub packetWrong : List ℕ → ℕ → ℕ

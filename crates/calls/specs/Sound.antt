@@ -4,6 +4,7 @@
 --   entriesSound es   == no programme number 0 or listed twice, no listed PID below 0x0020 or above 0x1FFE, no gap start above 2^62
 --   runSound c        == no sync run above 4 (above 1 in sync)
 --   roomsSound ns m   == no half-built bytes that already make a whole section or break the section_length rule, in any room
+--   restSound c m     == the rest of the state, behind times and list: runSound and roomsSound
 --   stateSound s m    == all of it
 --   byteSound counters p == the table byte of the packet's PID is 0, 16..31 or 48..63
 use Prim.Native.Nat.{ℕ, zero, suc, _+_}
@@ -57,14 +58,16 @@ roomsFrom ns m r (suc left) = roomSound ns m r && roomsFrom ns m (r + 1) left
 abbrev pub roomsSound : List ℕ → List ℕ → Bool
 roomsSound ns m = roomsFrom ns m 0 roomCount
 
+abbrev pub restSound : Core → List ℕ → Bool
+restSound c m = runSound c && roomsSound (c .half) m
+
 unfoldable pub stateSound : State → List ℕ → Bool
 stateSound s m =
     timeSound (s .latest)
     && timesSound (s .core .since)
     && leb (s .core .count) mostListed
     && entriesSound (listed (s .core))
-    && runSound (s .core)
-    && roomsSound (s .core .half) m
+    && restSound (s .core) m
 
 abbrev pub byteSound : List ℕ → List ℕ → Bool
 byteSound counters p = knownByte (getD counters (pidOf p) 0)

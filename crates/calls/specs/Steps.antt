@@ -36,7 +36,7 @@ use Rattle.programmes.specs.declared.Listed.{Listed}
 use Rattle.programmes.specs.Listing.{nullPid, isPair, listOf}
 use Rattle.programmes.specs.Places.{isListed, halfAt, movedHalves, movedBytes}
 use Rattle.calls.specs.declared.Core.{Core}
-use Rattle.calls.specs.Cores.{listed, Held, roomFor, withHalf, droppedRoom}
+use Rattle.calls.specs.Cores.{listed, Held, roomFor, withSince, withList, withHalf, droppedRoom}
 use Rattle.calls.specs.Sync.{syncedOf}
 
 pub record Step : Type 0 where
@@ -52,14 +52,14 @@ also es s = record { held = s .held; counters = s .counters; events = es ++ s .e
 
 -- A GOOD SECTION
 abbrev pub arrivedTable : ℕ → ℕ → Core → Core
-arrivedTable t r c = record { lost = c .lost; run = c .run; since = set (c .since) r t; count = c .count; entries = c .entries; half = c .half }
+arrivedTable t r c = withSince (set (c .since) r t) c
 
 abbrev pub touched : ℕ → ℕ → ℕ → Entry → Entry
 touched n q t e = record { number = e .number; pid = e .pid; since = cond (isPair n q e) t (e .since) }
 
 abbrev pub arrivedProgramme : ℕ → ℕ → ℕ → Core → Core
 arrivedProgramme n q t c =
-    record { lost = c .lost; run = c .run; since = c .since; count = c .count; entries = front (touched n q t) (c .count) (c .entries); half = c .half }
+    withList (c .count) (front (touched n q t) (c .count) (c .entries)) c
 
 abbrev pub newList : ℕ → List ℕ → Core → Listed
 newList t s c = listOf t (listed c) s
@@ -70,15 +70,7 @@ listedBy l = take (l .count) (l .entries)
 abbrev pub listOn : Listed → Held → Held
 listOn l h =
     record {
-      core =
-          record {
-            lost = h .core .lost;
-            run = h .core .run;
-            since = h .core .since;
-            count = l .count;
-            entries = l .entries;
-            half = movedHalves (listed (h .core)) (listedBy l) (h .core .half);
-          };
+      core = withHalf (movedHalves (listed (h .core)) (listedBy l) (h .core .half)) (withList (l .count) (l .entries) (h .core));
       memory = movedBytes (listed (h .core)) (listedBy l) (h .core .half) (h .memory);
     }
 

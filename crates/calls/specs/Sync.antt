@@ -13,17 +13,15 @@ use lib.ListN.{replicate}
 use Rattle.events.specs.Faults.{syncLoss, syncByteError}
 use Rattle.sections.specs.Rooms.{roomCount}
 use Rattle.calls.specs.declared.Core.{Core}
+use Rattle.calls.specs.Cores.{withSync, withHalf}
 
 pub record Synced : Type 0 where
   pub core : Core
   pub faults : List ℕ
   pub further : Bool
 
-abbrev pub withSync : Bool → ℕ → Core → Core
-withSync lost run c = record { lost = lost; run = run; since = c .since; count = c .count; entries = c .entries; half = c .half }
-
 abbrev pub lostNow : Core → Core
-lostNow c = record { lost = true; run = 0; since = c .since; count = c .count; entries = c .entries; half = replicate roomCount 0 }
+lostNow c = withHalf (replicate roomCount 0) (withSync true 0 c)
 
 abbrev pub inSync : Bool → Core → Synced
 inSync true c = record { core = withSync false 0 c; faults = []; further = true }

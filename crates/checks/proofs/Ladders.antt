@@ -7,11 +7,12 @@ use native.Mathlib.Omega.{arith}
 use lib.Dec.{ltb, eqb}
 use lib.ListN.{length, getD}
 use borrow.Author.Tests.{ltb-false, leb-true, eqb-true, le-ltb, le-leb, eq-eqb}
+use Rattle.events.specs.Room.{leastRoom}
 use Rattle.watches.specs.Tables.{latestTime}
 use Rattle.header.specs.Header.{packetSize, pidOf}
 use Rattle.calls.specs.declared.State.{State}
 use Rattle.calls.specs.Sound.{timeSound}
-use Rattle.calls.specs.Calls.{tableSize, leastRoom, packetWrong, tableWrong, roomWrong, timeWrong, packetRefusal}
+use Rattle.calls.specs.Calls.{tableSize, packetWrong, tableWrong, roomWrong, timeWrong, packetRefusal}
 use Rattle.checks.specs.Ladders.{sizesRefusal, Right, stateRefusal}
 
 -- the first half, with any number behind it: it is passed, or given whatever follows

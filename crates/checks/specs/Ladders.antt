@@ -9,12 +9,13 @@ use Prim.Native.Nat.{ℕ, _≤_}
 use mathlib.Core.Bool.{_&&_}
 use mathlib.Core.List.{List}
 use lib.ListN.{length}
+use Rattle.events.specs.Room.{leastRoom}
 use Rattle.watches.specs.Tables.{latestTime}
 use Rattle.header.specs.Header.{packetSize}
 use Rattle.continuity.specs.Continuity.{knownByte}
 use Rattle.calls.specs.declared.State.{State}
 use Rattle.calls.specs.Sound.{stateSound}
-use Rattle.calls.specs.Calls.{tableSize, leastRoom, packetWrong, tableWrong, roomWrong, timeWrong, stateWrong, orderWrong}
+use Rattle.calls.specs.Calls.{tableSize, packetWrong, tableWrong, roomWrong, timeWrong, stateWrong, orderWrong}
 
 unfoldable pub sizesRefusal : ℕ → List ℕ → List ℕ → ℕ → ℕ
 sizesRefusal t p counters room = packetWrong p (tableWrong counters (roomWrong room (timeWrong t 0)))

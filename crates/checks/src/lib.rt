@@ -1,41 +1,39 @@
 // The refusals (document 01, "The calls and their numbers"): each call's ladder, the lowest number first, and
 // the check of the state behind number 5, in the lent arrays.
+use arrays::LATEST;
+use calls::GREATEST_PID;
+use calls::TABLE_SIZE;
+use events::LEAST_ROOM;
+use header::PACKET_SIZE;
+use programmes::LOWEST_PID;
+use programmes::MOST_LISTED;
+use sections::ROOMS;
 use watches::Entry;
+use watches::FIXED;
+use watches::LATEST_TIME;
 ghost use mathlib.Core.Path.{_≡_};
-ghost use mathlib.Core.Bool.{true, cond};
+ghost use mathlib.Core.Bool.{true, cond, _&&_};
 ghost use mathlib.Core.List.{List};
 ghost use Prim.Native.Nat.{ℕ, _-_, _<_, _≤_};
 ghost use lib.Dec.{leb};
 ghost use lib.ListN.{length, take, drop};
+ghost use Rattle.watches.specs.Tables.{fixedCount};
 ghost use Rattle.sections.specs.Rooms.{memorySize, roomCount, greatestLength, halfBuilt};
 ghost use Rattle.sections.specs.Section.{stageOf, isMore};
 ghost use Rattle.programmes.specs.Places.{noneHalf};
+ghost use Rattle.programmes.specs.Listing.{mostListed};
 ghost use Rattle.calls.specs.Sound.{timesSound, numberAmong, entrySound, entriesSound, roomsFrom, roomsSound, stateSound};
 ghost use Rattle.calls.specs.Calls.{openRefusal, clockRefusal};
-ghost use Rattle.arrays.specs.Lent.{timeCount, wordCount, entriesIn, stateIn};
+ghost use Rattle.arrays.specs.Lent.{entriesIn, stateIn, coreTimeCount, coreWordCount};
 ghost use Rattle.checks.specs.Ladders.{sizesRefusal, stateRefusal};
-
-const LATEST_TIME: u64 = 4_611_686_018_427_387_904;
-
-const MOST_LISTED: usize = 16;
-
-const LOWEST_PID: u16 = 0x0020;
-
-const GREATEST_PID: u16 = 0x1FFE;
-
-const PACKET_SIZE: usize = 188;
-
-const TABLE_SIZE: usize = 8192;
-
-const LEAST_ROOM: usize = 96;
 
 // Whether none of the five gap starts is above 2^62.
 fn times_sound(since: &[u64]) -> bool
-    requires { ⌜ length (now since) ≡ 5 ⌝ }
+    requires { ⌜ length (now since) ≡ fixedCount ⌝ }
     ensures { λ r. ⌜ r ≡ timesSound (now (since .entry)) ⌝ }
 {
     let mut k: usize = 0;
-    while k < 5 {
+    while k < FIXED {
         if LATEST_TIME < since[k] {
             return false;
         }
@@ -53,7 +51,7 @@ fn entry_sound(e: Entry) -> bool
 
 // Whether a number is that of a listed entry from the place `start` on.
 fn number_among(number: u16, times: &[u64], words: &[u16], count: usize, start: usize) -> bool
-    requires { ⌜ (length (now times) ≡ timeCount) × (length (now words) ≡ wordCount) × (count ≤ 16) × (start ≤ count) ⌝ }
+    requires { ⌜ (coreTimeCount ≤ length (now times)) × (coreWordCount ≤ length (now words)) × (count ≤ mostListed) × (start ≤ count) ⌝ }
     ensures { λ r. ⌜ r ≡ numberAmong number (drop start (take count (entriesIn (now (times .entry)) (now (words .entry))))) ⌝ }
 {
     let mut i = start;
@@ -70,7 +68,7 @@ fn number_among(number: u16, times: &[u64], words: &[u16], count: usize, start: 
 // Whether each listed entry is sound and its number not listed again. Numbers are told apart by their remainder
 // of 64: only where two have the same is the list searched.
 fn entries_sound(times: &[u64], words: &[u16], count: usize) -> bool
-    requires { ⌜ (length (now times) ≡ timeCount) × (length (now words) ≡ wordCount) × (count ≤ 16) ⌝ }
+    requires { ⌜ (coreTimeCount ≤ length (now times)) × (coreWordCount ≤ length (now words)) × (count ≤ mostListed) ⌝ }
     ensures { λ r. ⌜ r ≡ entriesSound (take count (entriesIn (now (times .entry)) (now (words .entry)))) ⌝ }
 {
     let mut marks = [false; 64];
@@ -125,7 +123,7 @@ pub fn none_half(half: &[u16]) -> bool
 {
     let mut none = true;
     let mut k: usize = 0;
-    while k < 21 {
+    while k < ROOMS {
         none = none & (half[k] == 0);
         k += 1;
     }
@@ -135,12 +133,12 @@ pub fn none_half(half: &[u16]) -> bool
 // A room from which on nothing is half-built.
 fn rooms_used(half: &[u16]) -> usize
     requires { ⌜ length (now half) ≡ roomCount ⌝ }
-    ensures { λ r. ⌜ (r ≤ 21) × ((m : List ℕ) → roomsFrom (now (half .entry)) m r (21 - r) ≡ true) ⌝ }
+    ensures { λ r. ⌜ (r ≤ roomCount) × ((m : List ℕ) → roomsFrom (now (half .entry)) m r (roomCount - r) ≡ true) ⌝ }
 {
     if programmes::none_listed(half) {
-        return 5;
+        return FIXED;
     }
-    21
+    ROOMS
 }
 
 // Whether the half-built bytes of every room are still to be built on: mostly there are none.
@@ -162,12 +160,23 @@ pub fn rooms_sound(half: &[u16], memory: &[u8]) -> bool
     true
 }
 
+// The rest of the state behind its list: a run of sync bytes that these calls leave, half-built bytes still to be built on.
+fn rest_sound(lost: bool, run: u8, half: &[u16], memory: &[u8]) -> bool
+    requires { ⌜ (length (now half) ≡ roomCount) × (length (now memory) ≡ memorySize) ⌝ }
+    ensures { λ r. ⌜ r ≡ (leb run (cond lost 4 1) && roomsSound (now (half .entry)) (now (memory .entry))) ⌝ }
+{
+    if !run_sound(lost, run) {
+        return false;
+    }
+    rooms_sound(half, memory)
+}
+
 // Whether the state is no ground for refusal 5.
 fn state_sound(times: &[u64], words: &[u16], memory: &[u8]) -> bool
-    requires { ⌜ (length (now times) ≡ timeCount) × (length (now words) ≡ wordCount) × (length (now memory) ≡ memorySize) ⌝ }
+    requires { ⌜ (coreTimeCount ≤ length (now times)) × (coreWordCount ≤ length (now words)) × (length (now memory) ≡ memorySize) ⌝ }
     ensures { λ r. ⌜ r ≡ stateSound (stateIn (now (times .entry)) (now (words .entry))) (now (memory .entry)) ⌝ }
 {
-    if LATEST_TIME < times[0] {
+    if LATEST_TIME < times[LATEST] {
         return false;
     }
     if !times_sound(arrays::gaps_of(times)) {
@@ -180,10 +189,12 @@ fn state_sound(times: &[u64], words: &[u16], memory: &[u8]) -> bool
     if !entries_sound(times, words, count) {
         return false;
     }
-    if !run_sound(arrays::sync_lost(words), arrays::sync_run(words)) {
-        return false;
-    }
-    rooms_sound(arrays::halves_of(words), memory)
+    rest_sound(
+        arrays::sync_lost(words),
+        arrays::sync_run(words),
+        arrays::halves_of(words),
+        memory,
+    )
 }
 
 // The refusal of an opening; 0 where it is accepted.
@@ -220,7 +231,7 @@ pub fn sizes_refusal(time: u64, packet: &[u8], counters: &[u8], room: usize) -> 
 
 // Refusals 5 and 6 of a packet call, whose PID has a table byte; 0 where neither is given.
 pub fn state_refusal(times: &[u64], words: &[u16], time: u64, memory: &[u8], byte: u8) -> u32
-    requires { ⌜ (length (now times) ≡ timeCount) × (length (now words) ≡ wordCount) × (length (now memory) ≡ memorySize) ⌝ }
+    requires { ⌜ (coreTimeCount ≤ length (now times)) × (coreWordCount ≤ length (now words)) × (length (now memory) ≡ memorySize) ⌝ }
     ensures { λ r. ⌜ r ≡ stateRefusal (stateIn (now (times .entry)) (now (words .entry))) time (now (memory .entry)) byte ⌝ }
 {
     if !state_sound(times, words, memory) {
@@ -229,7 +240,7 @@ pub fn state_refusal(times: &[u64], words: &[u16], time: u64, memory: &[u8], byt
     if !continuity::known_byte(byte) {
         return 5;
     }
-    if time < times[0] {
+    if time < times[LATEST] {
         return 6;
     }
     0
@@ -237,7 +248,7 @@ pub fn state_refusal(times: &[u64], words: &[u16], time: u64, memory: &[u8], byt
 
 // The refusal of a clock call; 0 where it is accepted.
 pub fn clock_refusal(times: &[u64], words: &[u16], time: u64, memory: &[u8], room: usize) -> u32
-    requires { ⌜ (length (now times) ≡ timeCount) × (length (now words) ≡ wordCount) × (length (now memory) ≡ memorySize) ⌝ }
+    requires { ⌜ (coreTimeCount ≤ length (now times)) × (coreWordCount ≤ length (now words)) × (length (now memory) ≡ memorySize) ⌝ }
     ensures { λ r. ⌜ r ≡ clockRefusal (stateIn (now (times .entry)) (now (words .entry))) time (now (memory .entry)) room ⌝ }
 {
     if room < LEAST_ROOM {
@@ -249,7 +260,7 @@ pub fn clock_refusal(times: &[u64], words: &[u16], time: u64, memory: &[u8], roo
     if !state_sound(times, words, memory) {
         return 5;
     }
-    if time < times[0] {
+    if time < times[LATEST] {
         return 6;
     }
     0

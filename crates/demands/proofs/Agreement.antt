@@ -2,7 +2,7 @@
 use mathlib.Core.Path.{_≡_, refl, sym, ap, ap₂, _∙_, subst}
 use mathlib.Core.Bool.{Bool, true, false, cond}
 use mathlib.Core.List.{List, [], _∷_, _++_, map, append-nil, append-assoc}
-use Prim.Native.Nat.{ℕ, _<_, zero-le}
+use Prim.Native.Nat.{ℕ, zero, suc, _<_, zero-le}
 use native.Mathlib.Omega.{arith}
 use lib.Dec.{eqb}
 use lib.ListN.{length, getD-replicate}
@@ -134,8 +134,16 @@ module _ (w : Watched) (is : IsWatched w) where
         (log-ordered room cs (acceptedAfter g (packet t p)) (listen1 p l .listener) (subst (λ x. AllAccepted room x cs) (after-accepted room g (packet t p) (a .0)) (a .1))),
   )
 
+rising-table : (k : ℕ) → Rising (tableOf k .limits)
+rising-table zero = (zero-le, tt)
+rising-table (suc zero) = (zero-le, tt)
+rising-table (suc (suc zero)) = (zero-le, tt)
+rising-table (suc (suc (suc zero))) = (zero-le, tt)
+rising-table (suc (suc (suc (suc zero)))) = (zero-le, tt)
+rising-table (suc (suc (suc (suc (suc k))))) = (zero-le, tt)
+
 rising : (w : Watched) → Rising (limitsOf w)
-rising (fixed k) = (zero-le, tt)
+rising (fixed k) = rising-table k
 rising (programme n q) = (zero-le, tt)
 
 opened-watch : (w : Watched) (t : ℕ) → IsWatched w → (Fresh t (watchIn w (opened t))) × (viewOf (watchIn w (opened t)) ≡ watchedFrom w t)
@@ -197,9 +205,9 @@ fixed-life k b (packet t p ∷ cs) s l ar =
 pub demand-3-fixed : (k : ℕ) → k < length fixedTables → (room t : ℕ) (counters m : List ℕ) (cs : List (Call (List ℕ))) → Opened t counters m
     → AllAccepted room (opening t counters m) cs
     → liveLate (fixed k) room (opening t counters m) cs
-    ≡ map (λ x. eventAt x (tableOf k .fault) late (tableOf k .pid)) (gaps (tableOf k .limit ∷ []) t (arrivalsOf k (openedListener m) cs) (latestOf t cs))
+    ≡ map (λ x. eventAt x (tableOf k .fault) late (tableOf k .pid)) (gaps (tableOf k .limits) t (arrivalsOf k (openedListener m) cs) (latestOf t cs))
 demand-3-fixed k h room t counters m cs o a =
     demand-3 (fixed k) h room t counters m cs o a
     ∙ ap (stamped (fixed k))
-    (ap (judged (tableOf k .limit ∷ [])) (fixed-life k t cs t (openedListener m) [])
-    ∙ append-nil (gaps (tableOf k .limit ∷ []) t (arrivalsOf k (openedListener m) cs) (latestOf t cs)))
+    (ap (judged (tableOf k .limits)) (fixed-life k t cs t (openedListener m) [])
+    ∙ append-nil (gaps (tableOf k .limits) t (arrivalsOf k (openedListener m) cs) (latestOf t cs)))

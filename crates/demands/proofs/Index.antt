@@ -18,7 +18,7 @@ use Rattle.sections.specs.Outcomes.{isPmtRoom, outcomeOf}
 use Rattle.programmes.specs.Listing.{isPair}
 use Rattle.programmes.specs.Places.{isListed}
 use Rattle.calls.specs.declared.Core.{Core}
-use Rattle.calls.specs.Cores.{listed, Held, roomFor}
+use Rattle.calls.specs.Cores.{listed, Held, roomFor, withList}
 use Rattle.calls.specs.Steps.{touched, arrivedProgramme, bytesOf, absorbedBy, absorbed, step1}
 use Rattle.calls.proofs.Moves.{From, Moves, packet-moves, sync-moves}
 use Rattle.demands.specs.Listening.{pairOf, paired}
@@ -52,7 +52,7 @@ index t r pid n f h page good other =
 
     same : arrivedProgramme n pid t (h .core) ≡ h .core
     same =
-        ap (λ es. record { lost = h .core .lost; run = h .core .run; since = h .core .since; count = h .core .count; entries = es; half = h .core .half })
+        ap (λ es. withList (h .core .count) es (h .core))
         (untouched n pid t (h .core .count) (h .core .entries) other)
 
 -- A PID that neither the table of fixed watches nor the index gives: whatever its packets hold, no watch moves and no list changes

@@ -1,6 +1,6 @@
 -- The late events of a call: those with one watch's name are what falls due of its own gap, and a packet's own events are none. One law over
 -- the place in the table and in the list. Assumes nothing.
-use mathlib.Core.Path.{_≡_, refl, sym, ap, ap₂, _∙_}
+use mathlib.Core.Path.{_≡_, refl, sym, ap, ap₂, subst, _∙_}
 use mathlib.Core.Bool.{Bool, true, false, cond, not, _&&_, true≢false}
 use mathlib.Core.List.{List, [], _∷_, _++_, map, append-nil}
 use Prim.Native.Nat.{ℕ, zero, suc, _<_}
@@ -16,11 +16,12 @@ use Rattle.events.specs.declared.Event.{Event}
 use Rattle.events.specs.Faults.{late}
 use Rattle.events.specs.Events.{eventAt}
 use Rattle.watches.specs.declared.Entry.{Entry}
-use Rattle.watches.specs.Tables.{Table, fixedTables, tableOf, pmtTable}
-use Rattle.watches.specs.Late.{entryLate, tablesLate, entriesLate}
+use Rattle.watches.specs.declared.Table.{Table}
+use Rattle.watches.specs.Tables.{fixedTables, tableOf, pmtTable}
+use Rattle.watches.specs.Late.{Row, rowsLate, tableRow, entryRow, tableRows, entryRows}
 use Rattle.programmes.specs.Listing.{isPair}
 use Rattle.calls.specs.declared.Core.{Core}
-use Rattle.calls.specs.Cores.{listed, lateOf}
+use Rattle.calls.specs.Cores.{listed, boardOf, lateOf}
 use Rattle.calls.specs.Sound.{numberAmong, entrySound, entriesSound}
 use Rattle.demands.specs.Listening.{pairOf, paired}
 use Rattle.demands.specs.Judgements.{Watched, fixed, programme, limitsOf, faultOf, idOf, IsWatched, isLate, lateFor, isListed, tableNamed, isNamed}
@@ -101,10 +102,55 @@ cond-rest : (a b : Bool) → cond a true b ≡ false → b ≡ false
 cond-rest true b e = absurd (true≢false e)
 cond-rest false b e = e
 
+-- WATCHES BY NAME, any of them
+abbrev named : ℕ → ℕ → Row → Bool
+named f i w = eqb (w .fault) f && eqb (w .id) i
+
+abbrev NoneNamed : ℕ → ℕ → List Row → Type 0
+NoneNamed f i [] = Unit
+NoneNamed f i (w ∷ ws) = (named f i w ≡ false) × NoneNamed f i ws
+
+none-both : (f i : ℕ) (ws vs : List Row) → NoneNamed f i ws → NoneNamed f i vs → NoneNamed f i (ws ++ vs)
+none-both f i [] vs a b = b
+none-both f i (w ∷ ws) vs a b = (a .0, none-both f i ws vs (a .1) b)
+
+rows-unnamed : (f i p t : ℕ) (ws : List Row) → NoneNamed f i ws → stampsOf f i (rowsLate p t ws) ≡ []
+unfolding rowsLate stampsOf
+rows-unnamed f i p t [] n = refl
+rows-unnamed f i p t (w ∷ ws) n =
+    stampsOf-after f i (w .fault) (w .id) (due (w .limits) (w .since) p t) (rowsLate p t ws) (n .0) ∙ rows-unnamed f i p t ws (n .1)
+
+-- the one of its name
+data Only (w : Row) : List Row → Type 0 where
+  here : {ws : List Row} → NoneNamed (w .fault) (w .id) ws → Only w (w ∷ ws)
+  there : {v : Row} {ws : List Row} → named (w .fault) (w .id) v ≡ false → Only w ws → Only w (v ∷ ws)
+
+only-front : {w : Row} {ws : List Row} (vs : List Row) → Only w ws → NoneNamed (w .fault) (w .id) vs → Only w (ws ++ vs)
+only-front {w} vs (here {ws} n) z = here (none-both (w .fault) (w .id) ws vs n z)
+only-front vs (there e o) z = there e (only-front vs o z)
+
+only-behind : {w : Row} {vs : List Row} (ws : List Row) → NoneNamed (w .fault) (w .id) ws → Only w vs → Only w (ws ++ vs)
+only-behind [] n o = o
+only-behind (v ∷ ws) n o = there (n .0) (only-behind ws (n .1) o)
+
+rows-only : {w : Row} {ws : List Row} (p t : ℕ) → Only w ws → stampsOf (w .fault) (w .id) (rowsLate p t ws) ≡ due (w .limits) (w .since) p t
+unfolding rowsLate
+rows-only {w} p t (here {ws} n) =
+    stampsOf-only (w .fault) (w .id) (due (w .limits) (w .since) p t) (rowsLate p t ws) (rows-unnamed (w .fault) (w .id) p t ws n)
+rows-only {w} p t (there {v} {ws} e o) =
+    stampsOf-after (w .fault) (w .id) (v .fault) (v .id) (due (v .limits) (v .since) p t) (rowsLate p t ws) e ∙ rows-only p t o
+
 -- THE FIXED TABLES, each of its own name
 abbrev Apart : List Table → Type 0
 Apart [] = Unit
 Apart (r ∷ rs) = (tableNamed (r .fault) (r .pid) rs ≡ false) × Apart rs
+
+tables-none : (f i : ℕ) (rs : List Table) (ss : List ℕ) → tableNamed f i rs ≡ false → NoneNamed f i (tableRows rs ss)
+unfolding tableRows tableNamed
+tables-none f i [] ss e = tt
+tables-none f i (r ∷ rs) [] e = tt
+tables-none f i (r ∷ rs) (s ∷ ss) e =
+    (cond-none (eqb (r .fault) f && eqb (r .pid) i) (tableNamed f i rs) e, tables-none f i rs ss (cond-rest (eqb (r .fault) f && eqb (r .pid) i) (tableNamed f i rs) e))
 
 named-other : (f i k : ℕ) (rs : List Table) (d : Table) → tableNamed f i rs ≡ false → k < length rs
     → eqb f (getD rs k d .fault) && eqb i (getD rs k d .pid) ≡ false
@@ -115,26 +161,14 @@ named-other f i zero (r ∷ rs) d e h =
 named-other f i (suc k) (r ∷ rs) d e h =
     named-other f i k rs d (cond-rest (eqb (r .fault) f && eqb (r .pid) i) (tableNamed f i rs) e) (le-of-suc-le-suc h)
 
-tables-unnamed : (f i p t : ℕ) (rs : List Table) (ss : List ℕ) → tableNamed f i rs ≡ false → stampsOf f i (tablesLate p t rs ss) ≡ []
-unfolding tablesLate stampsOf tableNamed
-tables-unnamed f i p t [] ss e = refl
-tables-unnamed f i p t (r ∷ rs) [] e = refl
-tables-unnamed f i p t (r ∷ rs) (s ∷ ss) e =
-    stampsOf-after f i (r .fault) (r .pid) (due (r .limit ∷ []) s p t) (tablesLate p t rs ss)
-    (cond-none (eqb (r .fault) f && eqb (r .pid) i) (tableNamed f i rs) e)
-    ∙ tables-unnamed f i p t rs ss (cond-rest (eqb (r .fault) f && eqb (r .pid) i) (tableNamed f i rs) e)
-
-tables-own : (p t k : ℕ) (rs : List Table) (ss : List ℕ) (d : Table) → Apart rs → k < length rs → k < length ss
-    → stampsOf (getD rs k d .fault) (getD rs k d .pid) (tablesLate p t rs ss) ≡ due (getD rs k d .limit ∷ []) (getD ss k 0) p t
-unfolding tablesLate
-tables-own p t k [] ss d a h g = absurd (not-suc-le-zero h)
-tables-own p t k (r ∷ rs) [] d a h g = absurd (not-suc-le-zero g)
-tables-own p t zero (r ∷ rs) (s ∷ ss) d a h g =
-    stampsOf-only (r .fault) (r .pid) (due (r .limit ∷ []) s p t) (tablesLate p t rs ss) (tables-unnamed (r .fault) (r .pid) p t rs ss (a .0))
-tables-own p t (suc k) (r ∷ rs) (s ∷ ss) d a h g =
-    stampsOf-after (getD rs k d .fault) (getD rs k d .pid) (r .fault) (r .pid) (due (r .limit ∷ []) s p t) (tablesLate p t rs ss)
-    (named-other (r .fault) (r .pid) k rs d (a .0) (le-of-suc-le-suc h))
-    ∙ tables-own p t k rs ss d (a .1) (le-of-suc-le-suc h) (le-of-suc-le-suc g)
+tables-only : (k : ℕ) (rs : List Table) (ss : List ℕ) (d : Table) → Apart rs → k < length rs → k < length ss
+    → Only (tableRow (getD rs k d) (getD ss k 0)) (tableRows rs ss)
+unfolding tableRows
+tables-only k [] ss d a h g = absurd (not-suc-le-zero h)
+tables-only k (r ∷ rs) [] d a h g = absurd (not-suc-le-zero g)
+tables-only zero (r ∷ rs) (s ∷ ss) d a h g = here (tables-none (r .fault) (r .pid) rs ss (a .0))
+tables-only (suc k) (r ∷ rs) (s ∷ ss) d a h g =
+    there (named-other (r .fault) (r .pid) k rs d (a .0) (le-of-suc-le-suc h)) (tables-only k rs ss d (a .1) (le-of-suc-le-suc h) (le-of-suc-le-suc g))
 
 fixed-apart : Apart fixedTables
 unfolding tableNamed
@@ -149,21 +183,14 @@ unfolding tableNamed
 pmt-unnamed n = refl
 
 -- THE LISTED PROGRAMMES, each of its own number
-entries-foreign : (f i p t : ℕ) (es : List Entry) → eqb (pmtTable .fault) f ≡ false → stampsOf f i (entriesLate p t es) ≡ []
-unfolding entriesLate stampsOf
-entries-foreign f i p t [] e = refl
-entries-foreign f i p t (x ∷ es) e =
-    stampsOf-after f i (pmtTable .fault) (x .number) (due (pmtTable .limit ∷ []) (x .since) p t) (entriesLate p t es)
-    (and-none (eqb (pmtTable .fault) f) (eqb (x .number) i) e)
-    ∙ entries-foreign f i p t es e
+entries-foreign : (f i : ℕ) (es : List Entry) → eqb (pmtTable .fault) f ≡ false → NoneNamed f i (entryRows es)
+entries-foreign f i [] e = tt
+entries-foreign f i (x ∷ es) e = (and-none (eqb (pmtTable .fault) f) (eqb (x .number) i) e, entries-foreign f i es e)
 
-entries-absent : (n p t : ℕ) (es : List Entry) → numberAmong n es ≡ false → stampsOf (pmtTable .fault) n (entriesLate p t es) ≡ []
-unfolding entriesLate stampsOf numberAmong
-entries-absent n p t [] e = refl
-entries-absent n p t (x ∷ es) e =
-    stampsOf-after (pmtTable .fault) n (pmtTable .fault) (x .number) (due (pmtTable .limit ∷ []) (x .since) p t) (entriesLate p t es)
-    (cond-none (eqb (x .number) n) (numberAmong n es) e)
-    ∙ entries-absent n p t es (cond-rest (eqb (x .number) n) (numberAmong n es) e)
+entries-absent : (n : ℕ) (es : List Entry) → numberAmong n es ≡ false → NoneNamed (pmtTable .fault) n (entryRows es)
+unfolding numberAmong
+entries-absent n [] e = tt
+entries-absent n (x ∷ es) e = (cond-none (eqb (x .number) n) (numberAmong n es) e, entries-absent n es (cond-rest (eqb (x .number) n) (numberAmong n es) e))
 
 found-number : (n q s : ℕ) (es : List Entry) → found n q es ≡ on s → numberAmong n es ≡ true
 unfolding found numberAmong
@@ -175,11 +202,13 @@ found-number n q s (x ∷ es) e = go (eqb (x .number) n) (eqb (x .pid) q) e (fou
     go true b e ih = refl
     go false b e ih = ih e
 
-entries-own : (n q s p t : ℕ) (es : List Entry) → entriesSound es ≡ true → found n q es ≡ on s
-    → stampsOf (pmtTable .fault) n (entriesLate p t es) ≡ due (pmtTable .limit ∷ []) s p t
-unfolding entriesLate found entriesSound
-entries-own n q s p t [] a e = cc
-entries-own n q s p t (x ∷ es) a e = go (isPair n q x) refl e (entries-own n q s p t es sound)
+abbrev rowOf : ℕ → ℕ → Row
+rowOf n s = record { limits = pmtTable .limits; fault = pmtTable .fault; id = n; since = s }
+
+entries-only : (n q s : ℕ) (es : List Entry) → entriesSound es ≡ true → found n q es ≡ on s → Only (rowOf n s) (entryRows es)
+unfolding found entriesSound
+entries-only n q s [] a e = absurd (true≢false (cc))
+entries-only n q s (x ∷ es) a e = go (isPair n q x) refl e (entries-only n q s es sound)
   where
     sound : entriesSound es ≡ true
     sound = and-right (entrySound x && not (numberAmong (x .number) es)) (entriesSound es) a
@@ -194,18 +223,13 @@ entries-own n q s p t (x ∷ es) a e = go (isPair n q x) refl e (entries-own n q
         absurd (true≢false (sym (found-number n q s es f) ∙ ap (λ z. numberAmong z es) (sym (eqb-true (x .number) n h)) ∙ alone))
     apart false h f = refl
 
-    go : (b : Bool) → isPair n q x ≡ b → cond b (on (x .since)) (found n q es) ≡ on s
-        → (found n q es ≡ on s → stampsOf (pmtTable .fault) n (entriesLate p t es) ≡ due (pmtTable .limit ∷ []) s p t)
-        → stampsOf (pmtTable .fault) n (entryLate p t x ++ entriesLate p t es) ≡ due (pmtTable .limit ∷ []) s p t
+    go : (b : Bool) → isPair n q x ≡ b → cond b (on (x .since)) (found n q es) ≡ on s → (found n q es ≡ on s → Only (rowOf n s) (entryRows es))
+        → Only (rowOf n s) (entryRow x ∷ entryRows es)
     go true h e ih =
         let same : x .number ≡ n = same-number n q x h in
         let start : x .since ≡ s = cc in
-        rw (← same, ← start)
-        (stampsOf-only (pmtTable .fault) (x .number) (due (pmtTable .limit ∷ []) (x .since) p t) (entriesLate p t es) (entries-absent (x .number) p t es alone))
-    go false h e ih =
-        stampsOf-after (pmtTable .fault) n (pmtTable .fault) (x .number) (due (pmtTable .limit ∷ []) (x .since) p t) (entriesLate p t es)
-        (apart (eqb (x .number) n) refl e)
-        ∙ ih e
+        subst (λ (w : Row). Only w (entryRow x ∷ entryRows es)) (ap₂ rowOf same start) (here (entries-absent (x .number) es alone))
+    go false h e ih = there (apart (eqb (x .number) n) refl e) (ih e)
 
 -- a listed number has one PID
 paired-number : (n q : ℕ) (es : List Entry) → paired n q (map pairOf es) ≡ true → numberAmong n es ≡ true
@@ -244,30 +268,28 @@ pub late-due : (w : Watched) (p t : ℕ) (c : Core) → IsWatched w → length (
     → cond (isListed w c) (stampsOf (faultOf w) (idOf w) (lateOf p t c)) [] ≡ dueOf (limitsOf w) (watchIn w c) p t
 unfolding lateOf
 late-due (fixed k) p t c h l a =
-    stampsOf-append (tableOf k .fault) (tableOf k .pid) (tablesLate p t fixedTables (c .since)) (entriesLate p t (listed c))
-    ∙ ap₂ (λ x y. x ++ y) (tables-own p t k fixedTables (c .since) pmtTable fixed-apart h (omega arith))
-    (entries-foreign (tableOf k .fault) (tableOf k .pid) p t (listed c) (fault-other k h))
-    ∙ append-nil (due (tableOf k .limit ∷ []) (getD (c .since) k 0) p t)
+    rows-only p t
+    (only-front (entryRows (listed c)) (tables-only k fixedTables (c .since) pmtTable fixed-apart h (omega arith))
+    (entries-foreign (tableOf k .fault) (tableOf k .pid) (listed c) (fault-other k h)))
 late-due (programme n q) p t c h l a = go (found n q (listed c)) refl
   where
     go : (v : Watch) → found n q (listed c) ≡ v
-        → cond (paired n q (map pairOf (listed c))) (stampsOf (pmtTable .fault) n (tablesLate p t fixedTables (c .since) ++ entriesLate p t (listed c))) []
-        ≡ dueOf (pmtTable .limit ∷ []) v p t
+        → cond (paired n q (map pairOf (listed c))) (stampsOf (pmtTable .fault) n (rowsLate p t (boardOf c))) [] ≡ dueOf (pmtTable .limits) v p t
     go off e = rw (paired-found n q (listed c), e)
     go (on s) e =
         rw (paired-found n q (listed c), e)
-        (stampsOf-append (pmtTable .fault) n (tablesLate p t fixedTables (c .since)) (entriesLate p t (listed c))
-        ∙ ap₂ (λ x y. x ++ y) (tables-unnamed (pmtTable .fault) n p t fixedTables (c .since) (pmt-unnamed n)) (entries-own n q s p t (listed c) a e))
+        (rows-only p t
+        (only-behind (tableRows fixedTables (c .since)) (tables-none (pmtTable .fault) n fixedTables (c .since) (pmt-unnamed n)) (entries-only n q s (listed c) a e)))
 
 -- and a name that no watch has, none
 pub late-unnamed : (f i p t : ℕ) (c : Core) → isNamed f i c ≡ false → stampsOf f i (lateOf p t c) ≡ []
 unfolding lateOf
 late-unnamed f i p t c e =
-    stampsOf-append f i (tablesLate p t fixedTables (c .since)) (entriesLate p t (listed c))
-    ∙ ap₂ (λ x y. x ++ y)
-    (tables-unnamed f i p t fixedTables (c .since) (or-false-left (tableNamed f i fixedTables) (eqb (pmtTable .fault) f && numberAmong i (listed c)) e))
-    (go (eqb (pmtTable .fault) f) refl (or-false-right (tableNamed f i fixedTables) (eqb (pmtTable .fault) f && numberAmong i (listed c)) e))
+    rows-unnamed f i p t (boardOf c)
+    (none-both f i (tableRows fixedTables (c .since)) (entryRows (listed c))
+    (tables-none f i fixedTables (c .since) (or-false-left (tableNamed f i fixedTables) (eqb (pmtTable .fault) f && numberAmong i (listed c)) e))
+    (go (eqb (pmtTable .fault) f) refl (or-false-right (tableNamed f i fixedTables) (eqb (pmtTable .fault) f && numberAmong i (listed c)) e)))
   where
-    go : (b : Bool) → eqb (pmtTable .fault) f ≡ b → b && numberAmong i (listed c) ≡ false → stampsOf f i (entriesLate p t (listed c)) ≡ []
-    go true h g = rw (← eqb-true (pmtTable .fault) f h) (entries-absent i p t (listed c) g)
-    go false h g = entries-foreign f i p t (listed c) h
+    go : (b : Bool) → eqb (pmtTable .fault) f ≡ b → b && numberAmong i (listed c) ≡ false → NoneNamed f i (entryRows (listed c))
+    go true h g = subst (λ (z : ℕ). NoneNamed z i (entryRows (listed c))) (eqb-true (pmtTable .fault) f h) (entries-absent i (listed c) g)
+    go false h g = entries-foreign f i (listed c) h

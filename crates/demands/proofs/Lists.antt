@@ -9,12 +9,13 @@ use lib.ListN.{length, set, take}
 use Rattle.lists.specs.Places.{front}
 use Rattle.watches.specs.declared.Entry.{Entry}
 use Rattle.programmes.specs.declared.Listed.{Listed}
-use Rattle.programmes.specs.Listing.{mostListed, numberOf, entryPid, entriesOf, isNumber, pidUnusable, sinceOf, madeBad, listedWith, entered, readOn, noneListed, listOf}
+use Rattle.programmes.specs.Listing.{mostListed, numberOf, entryPid, entriesOf, isNumber, pidUnusable, entryFor, madeBad, listedWith, entered, readOn, noneListed, listOf}
 use Rattle.programmes.specs.Places.{placeOf, pidAt, movedHalf, movedFrom, movedHalves, movedPlace, movedPlaces, movedBytes}
+use Rattle.programmes.proofs.Entries.{entry-number, entry-pid}
 use Rattle.calls.specs.declared.Core.{Core}
 use Rattle.calls.specs.Cores.{listed, roomFor}
 use Rattle.calls.specs.Steps.{listedBy}
-use Rattle.demands.specs.Listening.{pairOf, plain, pairsIn, roomOn}
+use Rattle.demands.specs.Listening.{pairOf, plain, pairsIn, roomOn, Pair}
 
 -- PLACES
 placeOf-plain : (q : ℕ) (es : List Entry) → placeOf q (plain (map pairOf es)) ≡ placeOf q es
@@ -65,9 +66,9 @@ module _ (old new : List Entry) where
       ap (λ z. movedPlaces (plain (map pairOf old)) (plain (map pairOf new)) z m 0 16 m) (movedHalves-plain ns)
       ∙ movedPlaces-plain (movedHalves old new ns) m 0 16 m
 
--- THE READING OF A LIST: its entries are those read with no list before, each with the gap start that it keeps or begins
+-- THE READING OF A LIST: its entries are those read with no list before, each as the old one that it keeps or as a new one
 abbrev pub renewed : ℕ → List Entry → Entry → Entry
-renewed t old e = record { number = e .number; pid = e .pid; since = sinceOf t old (e .number) (e .pid) }
+renewed t old e = entryFor t old (e .number) (e .pid)
 
 front-suc : (f : Entry → Entry) (n : ℕ) (l : List Entry) (e : Entry) → set (front f n l) n (f e) ≡ front f (suc n) (set l n e)
 front-suc f zero [] e = refl
@@ -88,7 +89,7 @@ module _ (t : ℕ) (old : List Entry) where
   renewedList l = record { count = l .count; bad = l .bad; entries = front (renewed t old) (l .count) (l .entries) }
 
   entered-renewed : (heard : List ℕ) (n q : ℕ) (l : Listed) → entered t old heard n q (renewedList l) ≡ renewedList (entered 0 [] heard n q l)
-  unfolding sinceOf
+  unfolding entryFor
   entered-renewed heard n q l = go (eqb n 0) (pidUnusable q || (isNumber n heard || leb mostListed (l .count)))
     where
       e : Entry
@@ -119,7 +120,9 @@ module _ (t : ℕ) (old : List Entry) where
 
   pairs-renewed : (es : List Entry) → map pairOf (map (renewed t old) es) ≡ map pairOf es
   pairs-renewed [] = refl
-  pairs-renewed (e ∷ es) = ap (λ z. pairOf e ∷ z) (pairs-renewed es)
+  pairs-renewed (e ∷ es) =
+      let same : pairOf (renewed t old e) ≡ pairOf e = rw (entry-number t old (e .number) (e .pid), entry-pid t old (e .number) (e .pid)) in
+      ap₂ (λ (p : Pair) (ps : List Pair). p ∷ ps) same (pairs-renewed es)
 
   pub pairsIn-read : (s : List ℕ) → pairsIn s ≡ map pairOf (listedBy (listOf t old s))
   pairsIn-read s = sym (ap (map pairOf) (listOf-renewed s) ∙ pairs-renewed (listedBy (listOf 0 [] s)))

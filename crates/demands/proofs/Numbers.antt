@@ -13,12 +13,13 @@ use borrow.Author.Tests.{ltb-true, ltb-false, leb-true, leb-false, eqb-true, eqb
 use Rattle.lists.proofs.Tests.{and-left, and-right}
 use Rattle.lateness.specs.Logs.{Call, clock, packet, timeOf}
 use Rattle.severity.specs.Severity as severity
+use Rattle.events.specs.Room.{leastRoom}
 use Rattle.watches.specs.Tables.{latestTime}
 use Rattle.header.specs.Header.{packetSize, pidOf}
 use Rattle.calls.specs.declared.State.{State}
-use Rattle.calls.specs.Cores.{lateOf}
 use Rattle.calls.specs.Sound.{timeSound, stateSound, byteSound}
-use Rattle.calls.specs.Calls.{Result, tableSize, leastRoom, packetWrong, tableWrong, roomWrong, timeWrong, stateWrong, orderWrong, openRefusal, packetRefusal, clockRefusal, answerOf}
+use Rattle.calls.specs.Calls.{Result, tableSize, packetWrong, tableWrong, roomWrong, timeWrong, stateWrong, orderWrong, openRefusal, packetRefusal, clockRefusal, answerOf}
+use Rattle.calls.specs.Cores.{lateOf}
 use Rattle.demands.specs.Runs.{Given, callOf}
 use Rattle.demands.specs.Conditions.{PacketWrong, TableWrong, ListShort, TimeAbove, StateWrong, ByteWrong, OrderWrong, Rung, Accepted, OpenNumber, PacketNumber, ClockNumber, SeverityNumber, ownEvents}
 use Rattle.demands.proofs.StateWrong.{state-fails, state-holds, byte-fails, byte-holds}

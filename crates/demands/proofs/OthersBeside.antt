@@ -11,15 +11,16 @@ use lib.ListN.{length, take}
 use borrow.Author.Tests.{lt-ltb, ltb-true}
 use Rattle.lists.proofs.Tests.{and-left, and-right, and-intro, order}
 use Rattle.lateness.specs.Logs.{Call, clock, packet, orClock}
+use Rattle.events.specs.Room.{leastRoom}
 use Rattle.watches.specs.declared.Entry.{Entry}
 use Rattle.watches.specs.Tables.{fixedTables, patPid, latestTime}
 use Rattle.header.specs.Header.{rightSync, pidOf}
 use Rattle.continuity.specs.Continuity.{knownByte}
-use Rattle.calls.specs.Cores.{listed, Held, fixedRoom}
 use Rattle.calls.specs.Steps.{step1}
 use Rattle.calls.specs.Sound.{numberAmong, entrySound, entriesSound, stateSound, byteSound}
-use Rattle.calls.specs.Calls.{heldOf, leastRoom}
+use Rattle.calls.specs.Calls.{heldOf}
 use Rattle.calls.proofs.Accepted.{ClockAccepted, clock-accepted, accepted-clock, PacketAccepted, packet-accepted, accepted-packet, packet-number, clock-number, SoundEntry, entry-parts, entry-whole, entries-parts, entries-whole, sound-parts, sound-whole}
+use Rattle.calls.specs.Cores.{listed, Held, fixedRoom}
 use Rattle.demands.specs.Runs.{Given, callOf}
 use Rattle.demands.proofs.Accepted.{acceptedAfter}
 use Rattle.demands.proofs.OthersLists.{Timely, Alikes, none, next}

@@ -7,12 +7,12 @@ use Prim.Native.Nat.{ℕ, zero, suc, _+_, _≤_}
 use native.Mathlib.Omega.{arith}
 use lib.Dec.{leb, ltb, eqb}
 use lib.ListN.{length, set, take, replicate, length-set, length-replicate}
-use borrow.Author.Tests.{eqb-true, ne-eqb, leb-false}
+use borrow.Author.Tests.{ne-eqb, leb-false}
 use Rattle.lists.proofs.Tests.{cond-either, or-false-right}
 use Rattle.watches.specs.declared.Entry.{Entry}
 use Rattle.watches.specs.Tables.{noEntry, latestTime}
 use Rattle.programmes.specs.declared.Listed.{Listed}
-use Rattle.programmes.specs.Listing.{mostListed, numberOf, entryPid, entriesOf, isNumber, pidUnusable, isPair, sinceOf, madeBad, listedWith, entered, readOn, noneListed, listOf}
+use Rattle.programmes.specs.Listing.{mostListed, numberOf, entryPid, entriesOf, isNumber, pidUnusable, isPair, entryFor, madeBad, listedWith, entered, readOn, noneListed, listOf}
 use Rattle.programmes.specs.Places.{placeOf, isListed}
 use Rattle.calls.specs.Steps.{touched}
 
@@ -90,19 +90,20 @@ module _ (mine : ℕ → Bool) where
           let apart : eqb (e .pid) q ≡ false = ne-eqb (e .pid) q (λ z. true≢false (sym h ∙ ap mine z ∙ other)) in
           ap (λ b. cond (eqb (e .number) n && b) t (e .since)) apart ∙ ap (λ b. cond b t (e .since)) (and-false (eqb (e .number) n))
 
-  -- A LIST IS READ: the watch of a pair
-  alikes-since : (t n q : ℕ) → mine q ≡ true → {es ds : List Entry} → Alikes es ds → sinceOf t es n q ≡ sinceOf t ds n q
-  unfolding sinceOf
-  alikes-since t n q own none = refl
-  alikes-since t n q own (next {e} {d} {es} {ds} a z) =
-      ap₂ (λ (x y : ℕ). cond (eqb x n && eqb y q) (e .since) (sinceOf t es n q)) (a .number) (a .pid)
-      ∙ ap (λ (s : ℕ). cond (isPair n q d) (e .since) s) (alikes-since t n q own z)
-      ∙ go (eqb (d .number) n) (eqb (d .pid) q) refl
+  -- A LIST IS READ: the entry of a pair
+  alikes-entry : (t n q : ℕ) → {es ds : List Entry} → Alikes es ds → AlikeEntry (entryFor t es n q) (entryFor t ds n q)
+  unfolding entryFor
+  alikes-entry t n q none = record { number = refl; pid = refl; since = λ own. refl }
+  alikes-entry t n q (next {e} {d} {es} {ds} a z) = go (isPair n q e) (isPair n q d) pair (alikes-entry t n q z)
     where
-      go : (x y : Bool) → eqb (d .pid) q ≡ y → cond (x && y) (e .since) (sinceOf t ds n q) ≡ cond (x && y) (d .since) (sinceOf t ds n q)
-      go true true h = a .since (ap mine (a .pid ∙ eqb-true (d .pid) q h) ∙ own)
-      go true false h = refl
-      go false y h = refl
+      pair : isPair n q e ≡ isPair n q d
+      pair = ap₂ (λ (x y : ℕ). eqb x n && eqb y q) (a .number) (a .pid)
+
+      go : (b c : Bool) → b ≡ c → AlikeEntry (entryFor t es n q) (entryFor t ds n q) → AlikeEntry (cond b e (entryFor t es n q)) (cond c d (entryFor t ds n q))
+      go true true h r = a
+      go true false h r = absurd (true≢false h)
+      go false true h r = absurd (true≢false (sym h))
+      go false false h r = r
 
   pub record AlikeListed (l k : Listed) : Type 0 where
     pub count : l .count ≡ k .count
@@ -119,17 +120,13 @@ module _ (mine : ℕ → Bool) where
     alike-bad : (l k : Listed) → AlikeListed l k → AlikeListed (madeBad l) (madeBad k)
     alike-bad l k a = record { count = a .count; entries = a .entries }
 
-    abbrev paired : List Entry → ℕ → ℕ → Entry
-    paired es n q = record { number = n; pid = q; since = sinceOf t es n q }
-
-    alike-with : (n q : ℕ) (l k : Listed) → AlikeListed l k → AlikeListed (listedWith (paired old n q) l) (listedWith (paired old₂ n q) k)
+    alike-with : (n q : ℕ) (l k : Listed) → AlikeListed l k → AlikeListed (listedWith (entryFor t old n q) l) (listedWith (entryFor t old₂ n q) k)
     alike-with n q l k a =
-        let new : AlikeEntry (paired old n q) (paired old₂ n q) = record { number = refl; pid = refl; since = λ own. alikes-since t n q own before } in
         record {
           count = ap (λ c. c + 1) (a .count);
           entries =
-              subst (λ (c : ℕ). Alikes (set (l .entries) (l .count) (paired old n q)) (set (k .entries) c (paired old₂ n q))) (a .count)
-              (alikes-set (l .count) new (a .entries));
+              subst (λ (c : ℕ). Alikes (set (l .entries) (l .count) (entryFor t old n q)) (set (k .entries) c (entryFor t old₂ n q))) (a .count)
+              (alikes-set (l .count) (alikes-entry t n q before) (a .entries));
         }
 
     alike-entered : (seen : List ℕ) (n q : ℕ) (l k : Listed) → AlikeListed l k → AlikeListed (entered t old seen n q l) (entered t old₂ seen n q k)
@@ -185,18 +182,18 @@ module _ (t : ℕ) (early : t ≤ latestTime) where
   timely-touched n q [] h = tt
   timely-touched n q (e ∷ es) h = (cond-either (λ (s : ℕ). s ≤ latestTime) (isPair n q e) t (e .since) early (h .0), timely-touched n q es (h .1))
 
-  timely-since : (n q : ℕ) (es : List Entry) → Timely es → sinceOf t es n q ≤ latestTime
-  unfolding sinceOf
-  timely-since n q [] h = early
-  timely-since n q (e ∷ es) h =
-      cond-either (λ (s : ℕ). s ≤ latestTime) (isPair n q e) (e .since) (sinceOf t es n q) (h .0) (timely-since n q es (h .1))
+  timely-entry : (n q : ℕ) (es : List Entry) → Timely es → entryFor t es n q .since ≤ latestTime
+  unfolding entryFor
+  timely-entry n q [] h = early
+  timely-entry n q (e ∷ es) h =
+      cond-either (λ (x : Entry). x .since ≤ latestTime) (isPair n q e) e (entryFor t es n q) (h .0) (timely-entry n q es (h .1))
 
   module _ (old : List Entry) (before : Timely old) where
     entered-filled : (seen : List ℕ) (n q : ℕ) (l : Listed) → Filled l → Filled (entered t old seen n q l)
     entered-filled seen n q l f = cond-either Filled (eqb n 0) l _ f (go (pidUnusable q || (isNumber n seen || leb mostListed (l .count))) refl)
       where
         e : Entry
-        e = record { number = n; pid = q; since = sinceOf t old n q }
+        e = entryFor t old n q
 
         go : (b : Bool) → (pidUnusable q || (isNumber n seen || leb mostListed (l .count))) ≡ b → Filled (cond b (madeBad l) (listedWith e l))
         go true h = record { count = f .count; places = f .places; starts = f .starts }
@@ -205,7 +202,7 @@ module _ (t : ℕ) (early : t ≤ latestTime) where
             record {
               count = omega (arith, few);
               places = length-set (l .entries) (l .count) e ∙ f .places;
-              starts = timely-set (l .entries) (l .count) e (timely-since n q old before) (f .starts);
+              starts = timely-set (l .entries) (l .count) e (timely-entry n q old before) (f .starts);
             }
 
     made-bad-filled : (l : Listed) → Filled l → Filled (madeBad l)

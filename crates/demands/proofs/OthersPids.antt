@@ -13,7 +13,8 @@ use borrow.Author.Tests.{lt-ltb, le-ltb, ltb-true, eqb-true, eqb-false}
 use Rattle.lists.specs.Places.{part}
 use Rattle.lists.proofs.Tests.{Order, below, from, order}
 use Rattle.watches.specs.declared.Entry.{Entry}
-use Rattle.watches.specs.Tables.{Table, fixedTables, tableOf, pmtTable, latestTime}
+use Rattle.watches.specs.declared.Table.{Table}
+use Rattle.watches.specs.Tables.{fixedTables, tableOf, pmtTable, latestTime}
 use Rattle.sections.specs.Rooms.{memorySize, roomCount, noRoom, roomOfPlace, greatestLength, halfBuilt}
 use Rattle.sections.specs.Section.{stageOf, isMore}
 use Rattle.programmes.specs.Listing.{mostListed}

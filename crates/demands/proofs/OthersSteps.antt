@@ -18,8 +18,8 @@ use Rattle.continuity.specs.Continuity.{countedOf}
 use Rattle.sections.specs.Rooms.{roomCount, patRoom}
 use Rattle.sections.specs.Building.{Finished}
 use Rattle.programmes.specs.Listing.{nullPid}
-use Rattle.calls.specs.Cores.{Held, roomFor, droppedRoom}
-use Rattle.calls.specs.Sync.{Synced, withSync, inSync, syncedOf}
+use Rattle.calls.specs.Cores.{Held, roomFor, droppedRoom, withSync}
+use Rattle.calls.specs.Sync.{Synced, inSync, syncedOf}
 use Rattle.calls.specs.Steps.{Step, bytesOf, relisted, packetEvents, also, Absorbed, payloadTaken, sectionsTaken, step5, step4, step3, step2, step1, counted}
 use Rattle.calls.proofs.Moves.{From, syncedHeld, tableArrived, programmeArrived, payloadBuilt, Moves, packet-moves}
 use Rattle.demands.proofs.OthersPids.{Shaped, table-pid, bytesIn}

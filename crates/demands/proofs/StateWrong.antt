@@ -112,15 +112,14 @@ state-fails s m e =
     let d = entriesSound (listed (s .core)) in
     let f = runSound (s .core) in
     let g = roomsSound (s .core .half) m in
-    and-fails (a && b && c && d && f) g e
-    (λ abcdf. and-fails (a && b && c && d) f abcdf
+    and-fails (a && b && c && d) (f && g) e
     (λ abcd. and-fails (a && b && c) d abcd
     (λ abc. and-fails (a && b) c abc
     (λ ab. and-fails a b ab (λ h. latestAbove (leb-false (s .latest) latestTime h)) (λ h. times-fail (s .core .since) h sinceAbove))
     (λ h. manyListed (leb-false (s .core .count) mostListed h)))
     (λ h. listWrong (entries-fail (listed (s .core)) h)))
-    (λ h. runAbove (leb-false (s .core .run) (cond (s .core .lost) 4 1) h)))
-    (λ h. rooms-fail (s .core .half) m 0 roomCount h (λ r l k z. roomWrong r k (room-fails (s .core .half) m r z)))
+    (λ fg. and-fails f g fg (λ h. runAbove (leb-false (s .core .run) (cond (s .core .lost) 4 1) h))
+    (λ h. rooms-fail (s .core .half) m 0 roomCount h (λ r l k z. roomWrong r k (room-fails (s .core .half) m r z))))
 
 pub state-holds : (s : State) (m : List ℕ) → stateSound s m ≡ true → StateWrong s m → ⊥
 state-holds s m e w = go (sound-parts s m e) w

@@ -1,5 +1,5 @@
 -- One watch of the engine's core, and how it moves by what is heard: one law over the place in the list. Assumes nothing.
-use mathlib.Core.Path.{_≡_, refl, sym, ap, _∙_}
+use mathlib.Core.Path.{_≡_, refl, sym, ap, _∙_, ap₂}
 use mathlib.Core.Bool.{Bool, true, false, cond, _&&_}
 use mathlib.Core.List.{List, [], _∷_, _++_, map, append-assoc}
 use Prim.Native.Nat.{ℕ, _<_}
@@ -10,7 +10,8 @@ use borrow.Author.Tests.{eqb-true, eqb-false, eq-eqb}
 use Rattle.lists.proofs.Tests.{and-left, and-right}
 use Rattle.lateness.specs.Gaps.{Watch, off, on, Act, arrives, after, acted}
 use Rattle.watches.specs.declared.Entry.{Entry}
-use Rattle.programmes.specs.Listing.{isPair, sinceOf, listOf}
+use Rattle.programmes.specs.Listing.{isPair, entryFor, listOf}
+use Rattle.programmes.proofs.Entries.{entry-number, entry-pid}
 use Rattle.calls.specs.declared.Core.{Core}
 use Rattle.calls.specs.Cores.{listed}
 use Rattle.calls.specs.Steps.{touched, listedBy}
@@ -104,25 +105,28 @@ abbrev keptSince : ℕ → Watch → ℕ
 keptSince t off = t
 keptSince t (on s) = s
 
-sinceOf-found : (t : ℕ) (old : List Entry) (n q : ℕ) → sinceOf t old n q ≡ keptSince t (found n q old)
-unfolding sinceOf found
-sinceOf-found t [] n q = refl
-sinceOf-found t (e ∷ es) n q = go (isPair n q e) (sinceOf-found t es n q)
+entry-found : (t : ℕ) (old : List Entry) (n q : ℕ) → entryFor t old n q .since ≡ keptSince t (found n q old)
+unfolding entryFor found
+entry-found t [] n q = refl
+entry-found t (e ∷ es) n q = go (isPair n q e) (entry-found t es n q)
   where
-    go : (b : Bool) → sinceOf t es n q ≡ keptSince t (found n q es)
-        → cond b (e .since) (sinceOf t es n q) ≡ keptSince t (cond b (on (e .since)) (found n q es))
+    go : (b : Bool) → entryFor t es n q .since ≡ keptSince t (found n q es)
+        → cond b e (entryFor t es n q) .since ≡ keptSince t (cond b (on (e .since)) (found n q es))
     go true h = refl
     go false h = h
 
 found-renewed : (n q t : ℕ) (old es : List Entry)
-    → found n q (map (renewed t old) es) ≡ cond (paired n q (map pairOf es)) (on (sinceOf t old n q)) off
+    → found n q (map (renewed t old) es) ≡ cond (paired n q (map pairOf es)) (on (entryFor t old n q .since)) off
 unfolding found paired
 found-renewed n q t old [] = refl
-found-renewed n q t old (e ∷ es) = go (isPair n q e) refl (found-renewed n q t old es)
+found-renewed n q t old (e ∷ es) =
+    ap₂ (λ (x y : ℕ). cond (eqb x n && eqb y q) (on (renewed t old e .since)) (found n q (map (renewed t old) es)))
+    (entry-number t old (e .number) (e .pid)) (entry-pid t old (e .number) (e .pid))
+    ∙ go (isPair n q e) refl (found-renewed n q t old es)
   where
-    go : (b : Bool) → isPair n q e ≡ b → found n q (map (renewed t old) es) ≡ cond (paired n q (map pairOf es)) (on (sinceOf t old n q)) off
-        → cond b (on (sinceOf t old (e .number) (e .pid))) (found n q (map (renewed t old) es))
-        ≡ cond (cond b true (paired n q (map pairOf es))) (on (sinceOf t old n q)) off
+    go : (b : Bool) → isPair n q e ≡ b → found n q (map (renewed t old) es) ≡ cond (paired n q (map pairOf es)) (on (entryFor t old n q .since)) off
+        → cond b (on (entryFor t old (e .number) (e .pid) .since)) (found n q (map (renewed t old) es))
+        ≡ cond (cond b true (paired n q (map pairOf es))) (on (entryFor t old n q .since)) off
     go true h ih = rw (same-number n q e h, same-pid n q e h)
     go false h ih = ih
 
@@ -131,7 +135,7 @@ pub found-index : (n q t : ℕ) (old : List Entry) (s : List ℕ)
 found-index n q t old s =
     ap (found n q) (listOf-renewed t old s)
     ∙ found-renewed n q t old (listedBy (listOf 0 [] s))
-    ∙ rw (sinceOf-found t old n q, paired-found n q old) (go (found n q old) (paired n q (pairsIn s)))
+    ∙ rw (entry-found t old n q, paired-found n q old) (go (found n q old) (paired n q (pairsIn s)))
   where
     go : (w : Watch) (here : Bool) → cond here (on (keptSince t w)) off ≡ acted t w (changed (isOn w) here)
     go off true = refl

@@ -18,19 +18,20 @@ use lib.ListN.{length, getD}
 use Rattle.lateness.specs.Logs.{Call, clock, packet}
 use Rattle.severity.specs.Severity as severity
 use Rattle.events.specs.declared.Event.{Event}
+use Rattle.events.specs.Room.{leastRoom}
 use Rattle.watches.specs.declared.Entry.{Entry}
 use Rattle.watches.specs.Tables.{noEntry, latestTime}
 use Rattle.header.specs.Header.{packetSize, pidOf}
 use Rattle.sections.specs.declared.Stage.the-variants.{Bad, Whole}
-use Rattle.sections.specs.Rooms.{roomCount, greatestLength, halfBuilt}
 use Rattle.sections.specs.Section.{stageOf}
-use Rattle.programmes.specs.Listing.{mostListed, lowestPid}
+use Rattle.sections.specs.Rooms.{roomCount, greatestLength, halfBuilt}
 use Rattle.programmes.specs.Places.{halfAt}
+use Rattle.programmes.specs.Listing.{mostListed, lowestPid}
 use Rattle.calls.specs.declared.State.{State}
-use Rattle.calls.specs.Cores.{listed}
 use Rattle.calls.specs.Sound.{greatestPid}
 use Rattle.calls.specs.Steps.{step1}
-use Rattle.calls.specs.Calls.{tableSize, leastRoom, heldOf}
+use Rattle.calls.specs.Calls.{tableSize, heldOf}
+use Rattle.calls.specs.Cores.{listed}
 use Rattle.demands.specs.Runs.{Given}
 
 -- 1, 2, 3, 4

@@ -30,7 +30,8 @@ use Rattle.lateness.specs.Logs.{Call, clock, packet, timeOf, seen}
 use Rattle.events.specs.declared.Event.{Event}
 use Rattle.events.specs.Faults.{late}
 use Rattle.events.specs.Events.{eventAt}
-use Rattle.watches.specs.Tables.{Table, fixedTables, tableOf, pmtTable}
+use Rattle.watches.specs.declared.Table.{Table}
+use Rattle.watches.specs.Tables.{fixedTables, tableOf, pmtTable}
 use Rattle.calls.specs.declared.Core.{Core}
 use Rattle.calls.specs.Cores.{listed}
 use Rattle.calls.specs.Sound.{numberAmong}
@@ -42,8 +43,8 @@ pub data Watched : Type 0 where
   programme : ℕ → ℕ → Watched
 
 abbrev pub limitsOf : Watched → List ℕ
-limitsOf (fixed k) = tableOf k .limit ∷ []
-limitsOf (programme n q) = pmtTable .limit ∷ []
+limitsOf (fixed k) = tableOf k .limits
+limitsOf (programme n q) = pmtTable .limits
 
 abbrev pub faultOf : Watched → ℕ
 faultOf (fixed k) = tableOf k .fault

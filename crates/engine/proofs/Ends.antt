@@ -12,19 +12,20 @@ use Rattle.lists.proofs.Tests.{and-right, cond-either}
 use Rattle.lists.proofs.Laying.{laid-none, laid-turn}
 use Rattle.events.specs.declared.Event.{Event}
 use Rattle.events.specs.Events.{numbersOf, eventsLaid}
-use Rattle.watches.specs.Tables.{latestTime}
+use Rattle.events.specs.Room.{recordWidth}
+use Rattle.watches.specs.Tables.{latestTime, fixedCount}
 use Rattle.header.specs.Header.{pidOf}
 use Rattle.programmes.specs.Listing.{mostListed}
 use Rattle.calls.specs.declared.Core.{Core}
 use Rattle.calls.specs.declared.State.{State}
 use Rattle.calls.specs.declared.Answer.{Answer}
 use Rattle.calls.specs.Cores.{listed, lateOf, openedState}
-use Rattle.calls.specs.Sound.{timeSound, timesSound, entriesSound, runSound, roomsSound, stateSound}
+use Rattle.calls.specs.Sound.{timeSound, timesSound, entriesSound, runSound, roomsSound, restSound, stateSound}
 use Rattle.calls.specs.Steps.{step1}
 use Rattle.calls.specs.Calls.{Result, openRefusal, packetRefusal, clockRefusal, openAnswer, openTable, packetCall, clockCall}
 use Rattle.calls.proofs.Accepted.{Sound, open-accepted, packet-call-accepted, packet-call-refused, clock-call-accepted, clock-call-refused}
 use Rattle.arrays.specs.declared.Reply.{Reply}
-use Rattle.arrays.specs.Lent.{coreIn, stateIn, timesOf, wordsOf, Sized}
+use Rattle.arrays.specs.Lent.{coreIn, stateIn, timesOf, wordsOf, Sized, latestAt}
 use Rattle.arrays.specs.Replies.{timesAfter, wordsAfter}
 use Rattle.payloads.specs.Taking.{held}
 use Rattle.checks.specs.Ladders.{Right}
@@ -40,16 +41,15 @@ use Rattle.engine.proofs.Fits.{all-fit-append, step1-fits}
 pub sound-rooms : (s : State) (m : List ℕ) → stateSound s m ≡ true → roomsSound (s .core .half) m ≡ true
 unfolding stateSound
 sound-rooms s m e =
-    and-right
-    (timeSound (s .latest) && timesSound (s .core .since) && leb (s .core .count) mostListed && entriesSound (listed (s .core)) && runSound (s .core))
-    (roomsSound (s .core .half) m) e
+    and-right (runSound (s .core)) (roomsSound (s .core .half) m)
+    (and-right (timeSound (s .latest) && timesSound (s .core .since) && leb (s .core .count) mostListed && entriesSound (listed (s .core))) (restSound (s .core) m) e)
 
 pub sound-run : (s : State) (m : List ℕ) → Sound s m → s .core .run ≤ 4
 sound-run s m h = omega (arith, h .run, cond-either (λ (n : ℕ). n ≤ 4) (s .core .lost) 4 1 (omega arith) (omega arith))
 
 -- EVENTS, laid from the first place on
 pub numbered-none : (list : List ℕ) → Numbered list list []
-numbered-none list = record { laid = sym (laid-none numbersOf 4 list 0); fits = tt; few = omega arith }
+numbered-none list = record { laid = sym (laid-none numbersOf recordWidth list 0); fits = tt; few = omega arith }
 
 -- WHAT IS ANSWERED
 abbrev refused : ℕ → State → Answer
@@ -93,17 +93,17 @@ module _ (times words : List ℕ) (t : ℕ) (p counters m : List ℕ) (room : �
 
   -- a quiet one: nothing but one table byte and the latest time changes
   pub packet-quiet : Sized times words → Right t p counters room → (table : List ℕ) → quietCall (stateIn times words) m t p (getD counters (pidOf p) 0) ≡ true → table ≡ countedTable p counters
-      → PacketLaid called (told 0 0) times (set times 0 t) words words table m before before
+      → PacketLaid called (told 0 0) times (set times latestAt t) words words table m before before
   packet-quiet sized right table e counted =
       let d = quiet-done times words sized t p counters m room right e in
       (d .0, d .1, d .2, counted ∙ d .3, d .4, rw (d .5) (numbered-none before))
 
   abbrev late : List Event
-  late = lateOf (getD times 0 0) t (coreIn times words)
+  late = lateOf (getD times latestAt 0) t (coreIn times words)
 
   pub packet-done : {mid : List ℕ} {i : ℕ} {c : Core} {table left after : List ℕ} {r : ℕ} {timesLeft wordsLeft : List ℕ}
       → packetRefusal (stateIn times words) t p counters m room ≡ 0 → t ≤ latestTime → pidOf p < 65536
-      → i ≡ length late → mid ≡ eventsLaid before 0 late → i ≤ 21 → AllFit late
+      → i ≡ length late → mid ≡ eventsLaid before 0 late → i ≤ fixedCount + mostListed → AllFit late
       → Done (step1 t p counters (held (coreIn times words) m)) 65 c table left mid i after r
       → timesLeft ≡ timesOf (record { latest = t; core = c }) → wordsLeft ≡ wordsOf (record { latest = t; core = c })
       → PacketLaid called (told 0 r) times timesLeft words wordsLeft table left before after
@@ -111,7 +111,7 @@ module _ (times words : List ℕ) (t : ℕ) (p counters m : List ℕ) (room : �
   packet-done {mid = mid} {i = i} {c = c} {after = after} {r = r} e ht hp ei el few fits done et ew =
       let own = step1 t p counters (held (coreIn times words) m) .events in
       let from : i ≡ 0 + length late = omega (arith, ei) in
-      let w = laid-turn numbersOf 4 (λ e. refl) 0 i r before mid after late own from el (done .next) (done .laid) in
+      let w = laid-turn numbersOf recordWidth (λ e. refl) 0 i r before mid after late own from el (done .next) (done .laid) in
       let n : r ≡ length (late ++ own) = omega (arith, w .0) in
       rw (packet-call-accepted (stateIn times words) t p counters m room e) (
         ap (told 0) n,
@@ -140,8 +140,8 @@ module _ (times words : List ℕ) (t : ℕ) (m : List ℕ) (room : ℕ) (before 
       (ap (λ (n : ℕ). record { refusal = n; n = 0 }) e, refl, refl, numbered-none before)
 
   pub clock-done : {after : List ℕ} {i : ℕ} {timesLeft wordsLeft : List ℕ} → clockRefusal (stateIn times words) t m room ≡ 0
-      → i ≡ length (lateOf (getD times 0 0) t (coreIn times words)) → after ≡ eventsLaid before 0 (lateOf (getD times 0 0) t (coreIn times words)) → i ≤ 21
-      → AllFit (lateOf (getD times 0 0) t (coreIn times words))
+      → i ≡ length (lateOf (getD times latestAt 0) t (coreIn times words)) → after ≡ eventsLaid before 0 (lateOf (getD times latestAt 0) t (coreIn times words)) → i ≤ fixedCount + mostListed
+      → AllFit (lateOf (getD times latestAt 0) t (coreIn times words))
       → timesLeft ≡ timesOf (record { latest = t; core = coreIn times words }) → wordsLeft ≡ wordsOf (record { latest = t; core = coreIn times words })
       → ClockLaid clocked (record { refusal = 0; n = i }) times timesLeft words wordsLeft before after
   unfolding stateIn timesAfter wordsAfter

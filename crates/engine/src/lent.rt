@@ -1,28 +1,32 @@
 // The calls on a state that is lent as two arrays: it is judged and moved where it stands. On a refusal nothing that was
 // lent is written, the arrays neither.
+use arrays::LATEST;
 use arrays::Reply;
+use arrays::TIMES;
+use arrays::WORDS;
+use events::NUMBERS;
 use header::Header;
+use header::PACKET_SIZE;
+use header::SYNC_BYTE;
+use sections::MEMORY;
 ghost use mathlib.Core.Path.{_≡_};
 ghost use mathlib.Core.Bool.{_&&_};
 ghost use lib.Dec.{eqb};
 ghost use Prim.Native.Nat.{ℕ, _+_, _<_, _≤_};
 ghost use lib.ListN.{length, getD};
+ghost use Rattle.events.specs.Room.{leastRoom, numberRoom};
 ghost use Rattle.events.specs.Events.{eventsLaid};
-ghost use Rattle.watches.specs.Tables.{noEntry, latestTime};
-ghost use Rattle.watches.specs.Late.{entriesLate};
+ghost use Rattle.watches.specs.Tables.{noEntry, latestTime, fixedCount};
+ghost use Rattle.watches.specs.Late.{entryRows, rowsLate};
 ghost use Rattle.header.specs.Header.{packetSize, rightSync, Seen};
 ghost use Rattle.sections.specs.Rooms.{memorySize};
 ghost use Rattle.programmes.specs.Listing.{mostListed};
 ghost use Rattle.calls.specs.Cores.{lateOf};
 ghost use Rattle.calls.specs.Calls.{packetCall, clockCall};
-ghost use Rattle.arrays.specs.Lent.{gapsIn, countIn, entriesIn, listedIn, coreIn, stateIn, Sized};
+ghost use Rattle.arrays.specs.Lent.{gapsIn, countIn, entriesIn, listedIn, coreIn, stateIn, Sized, latestAt};
 ghost use Rattle.checks.specs.Ladders.{Right};
 ghost use Rattle.engine.specs.Numbers.{AllFit};
 ghost use Rattle.engine.specs.Lent.{PacketLaid, ClockLaid};
-
-const PACKET_SIZE: usize = 188;
-
-const SYNC_BYTE: u8 = 0x47;
 
 fn bytes_in(s: &[u8]) -> usize
     ensures { λ r. ⌜ r ≡ length (now (s .entry)) ⌝ }
@@ -37,28 +41,28 @@ fn numbers_in(s: &[u64]) -> usize
 }
 
 // Section memory has its length by its type: a call of this shows it.
-pub(crate) fn memory_size(memory: &[u8; 24576]) -> usize
+pub(crate) fn memory_size(memory: &[u8; MEMORY]) -> usize
     ensures { λ r. ⌜ (r ≡ memorySize) × (length (now (memory .entry)) ≡ memorySize) ⌝ }
 {
     bytes_in(memory)
 }
 
-// So has the list of numbers: room for 96 events.
-fn numbers_size(numbers: &[u64; 384]) -> usize
-    ensures { λ r. ⌜ (r ≡ 384) × (length (now (numbers .entry)) ≡ 384) ⌝ }
+// So has the list of numbers: the numbers of the least event list.
+fn numbers_size(numbers: &[u64; NUMBERS]) -> usize
+    ensures { λ r. ⌜ (r ≡ numberRoom) × (length (now (numbers .entry)) ≡ numberRoom) ⌝ }
 {
     numbers_in(numbers)
 }
 
 // The late events of the listed programmes, in list order, laid from the place n on; the next place.
 fn late_entries(times: &[u64], words: &[u16], time: u64, numbers: &mut [u64], n: usize) -> usize
-    requires { ⌜ Sized (now times) (now words) × (n + 16 ≤ 96) × (384 ≤ length (now numbers)) × (countIn (now words) ≤ mostListed)
+    requires { ⌜ Sized (now times) (now words) × (n + mostListed ≤ leastRoom) × (numberRoom ≤ length (now numbers)) × (countIn (now words) ≤ mostListed)
         × ((k : ℕ) → k < countIn (now words) → getD (entriesIn (now times) (now words)) k noEntry .since ≤ latestTime) ⌝ }
-    ensures { λ r. ⌜ (r ≡ n + length (entriesLate (getD (now (times .entry)) 0 0) time (listedIn (now (times .entry)) (now (words .entry)))))
-        × (now (numbers .exit) ≡ eventsLaid (now (numbers .entry)) n (entriesLate (getD (now (times .entry)) 0 0) time (listedIn (now (times .entry)) (now (words .entry)))))
+    ensures { λ r. ⌜ (r ≡ n + length (rowsLate (getD (now (times .entry)) latestAt 0) time (entryRows (listedIn (now (times .entry)) (now (words .entry))))))
+        × (now (numbers .exit) ≡ eventsLaid (now (numbers .entry)) n (rowsLate (getD (now (times .entry)) latestAt 0) time (entryRows (listedIn (now (times .entry)) (now (words .entry))))))
         × ((k : ℕ) → k < countIn (now (words .entry)) → getD (entriesIn (now (times .entry)) (now (words .entry))) k noEntry .number < 65536) ⌝ }
 {
-    let latest = times[0];
+    let latest = times[LATEST];
     let count = arrays::count_in(words);
     let mut m = n;
     let mut k: usize = 0;
@@ -72,29 +76,29 @@ fn late_entries(times: &[u64], words: &[u16], time: u64, numbers: &mut [u64], n:
 
 // The late events of a call, laid first; how many there are.
 fn judge_late(times: &[u64], words: &[u16], time: u64, numbers: &mut [u64]) -> usize
-    requires { ⌜ Sized (now times) (now words) × (384 ≤ length (now numbers)) × (countIn (now words) ≤ mostListed) × ((k : ℕ) → getD (gapsIn (now times)) k 0 ≤ latestTime)
+    requires { ⌜ Sized (now times) (now words) × (numberRoom ≤ length (now numbers)) × (countIn (now words) ≤ mostListed) × ((k : ℕ) → getD (gapsIn (now times)) k 0 ≤ latestTime)
         × ((k : ℕ) → k < countIn (now words) → getD (entriesIn (now times) (now words)) k noEntry .since ≤ latestTime) ⌝ }
-    ensures { λ r. ⌜ (r ≡ length (lateOf (getD (now (times .entry)) 0 0) time (coreIn (now (times .entry)) (now (words .entry)))))
-        × (now (numbers .exit) ≡ eventsLaid (now (numbers .entry)) 0 (lateOf (getD (now (times .entry)) 0 0) time (coreIn (now (times .entry)) (now (words .entry)))))
-        × (r ≤ 21) × AllFit (lateOf (getD (now (times .entry)) 0 0) time (coreIn (now (times .entry)) (now (words .entry)))) ⌝ }
+    ensures { λ r. ⌜ (r ≡ length (lateOf (getD (now (times .entry)) latestAt 0) time (coreIn (now (times .entry)) (now (words .entry)))))
+        × (now (numbers .exit) ≡ eventsLaid (now (numbers .entry)) 0 (lateOf (getD (now (times .entry)) latestAt 0) time (coreIn (now (times .entry)) (now (words .entry)))))
+        × (r ≤ fixedCount + mostListed) × AllFit (lateOf (getD (now (times .entry)) latestAt 0) time (coreIn (now (times .entry)) (now (words .entry)))) ⌝ }
 {
-    let latest = times[0];
+    let latest = times[LATEST];
     let next = watches::late_tables(numbers, 0, latest, time, arrays::gaps_of(times));
     late_entries(times, words, time, numbers, next)
 }
 
 // A packet call that refusals 1 to 4 pass, made in all its steps: the late events, then those of the packet.
 pub(crate) fn loud_packet(
-    times: &mut [u64; 22],
-    words: &mut [u16; 56],
+    times: &mut [u64; TIMES],
+    words: &mut [u16; WORDS],
     time: u64,
     packet: &[u8],
     h: Header,
     byte: u8,
     counters: &mut [u8],
-    memory: &mut [u8; 24576],
+    memory: &mut [u8; MEMORY],
     room: usize,
-    numbers: &mut [u64; 384],
+    numbers: &mut [u64; NUMBERS],
 ) -> Reply
     requires { ⌜ Right time (now packet) (now counters) room × Seen (now packet) (now counters) h byte × (h .pid < 8192) ⌝ }
     ensures { λ r. ⌜ PacketLaid (packetCall (stateIn (now (times .entry)) (now (words .entry))) time (now (packet .entry)) (now (counters .entry)) (now (memory .entry)) room)
@@ -124,20 +128,20 @@ pub(crate) fn loud_packet(
         numbers,
         late,
     );
-    times[0] = time;
+    times[LATEST] = time;
     Reply { refusal: 0, n: n }
 }
 
 // A packet call, mostly a quiet one, which is two stores. Header and table byte are read once.
 fn synced_packet(
-    times: &mut [u64; 22],
-    words: &mut [u16; 56],
+    times: &mut [u64; TIMES],
+    words: &mut [u16; WORDS],
     time: u64,
     packet: &[u8],
     counters: &mut [u8],
-    memory: &mut [u8; 24576],
+    memory: &mut [u8; MEMORY],
     room: usize,
-    numbers: &mut [u64; 384],
+    numbers: &mut [u64; NUMBERS],
 ) -> Reply
     ensures { λ r. ⌜ PacketLaid (packetCall (stateIn (now (times .entry)) (now (words .entry))) time (now (packet .entry)) (now (counters .entry)) (now (memory .entry)) room)
         r (now (times .entry)) (now (times .exit)) (now (words .entry)) (now (words .exit)) (now (counters .exit)) (now (memory .exit)) (now (numbers .entry)) (now (numbers .exit)) ⌝ }
@@ -158,7 +162,7 @@ fn synced_packet(
     let g = quiet::quiet_packet(times, words, memory, time, packet, h, byte);
     if g.quiet {
         counters[pid] = g.byte;
-        times[0] = time;
+        times[LATEST] = time;
         return Reply { refusal: 0, n: 0 };
     }
     loud_packet(
@@ -177,14 +181,14 @@ fn synced_packet(
 
 // A packet call that is not quiet, made in all its steps.
 fn other_packet(
-    times: &mut [u64; 22],
-    words: &mut [u16; 56],
+    times: &mut [u64; TIMES],
+    words: &mut [u16; WORDS],
     time: u64,
     packet: &[u8],
     counters: &mut [u8],
-    memory: &mut [u8; 24576],
+    memory: &mut [u8; MEMORY],
     room: usize,
-    numbers: &mut [u64; 384],
+    numbers: &mut [u64; NUMBERS],
 ) -> Reply
     ensures { λ r. ⌜ PacketLaid (packetCall (stateIn (now (times .entry)) (now (words .entry))) time (now (packet .entry)) (now (counters .entry)) (now (memory .entry)) room)
         r (now (times .entry)) (now (times .exit)) (now (words .entry)) (now (words .exit)) (now (counters .exit)) (now (memory .exit)) (now (numbers .entry)) (now (numbers .exit)) ⌝ }
@@ -225,14 +229,14 @@ fn in_step(packet: &[u8]) -> bool
 // A packet call, for an event list of `room` records. The packet's first byte is looked at before all else: so the packet is
 // on its way from memory while the rest of the call is judged. A call without a right one is not quiet.
 pub fn packet_in(
-    times: &mut [u64; 22],
-    words: &mut [u16; 56],
+    times: &mut [u64; TIMES],
+    words: &mut [u16; WORDS],
     time: u64,
     packet: &[u8],
     counters: &mut [u8],
-    memory: &mut [u8; 24576],
+    memory: &mut [u8; MEMORY],
     room: usize,
-    numbers: &mut [u64; 384],
+    numbers: &mut [u64; NUMBERS],
 ) -> Reply
     ensures { λ r. ⌜ PacketLaid (packetCall (stateIn (now (times .entry)) (now (words .entry))) time (now (packet .entry)) (now (counters .entry)) (now (memory .entry)) room)
         r (now (times .entry)) (now (times .exit)) (now (words .entry)) (now (words .exit)) (now (counters .exit)) (now (memory .exit)) (now (numbers .entry)) (now (numbers .exit)) ⌝ }
@@ -245,12 +249,12 @@ pub fn packet_in(
 
 // A clock call, for an event list of `room` records: the late events alone.
 pub fn clock_in(
-    times: &mut [u64; 22],
-    words: &mut [u16; 56],
+    times: &mut [u64; TIMES],
+    words: &mut [u16; WORDS],
     time: u64,
-    memory: &[u8; 24576],
+    memory: &[u8; MEMORY],
     room: usize,
-    numbers: &mut [u64; 384],
+    numbers: &mut [u64; NUMBERS],
 ) -> Reply
     ensures { λ r. ⌜ ClockLaid (clockCall (stateIn (now (times .entry)) (now (words .entry))) time (now (memory .entry)) room)
         r (now (times .entry)) (now (times .exit)) (now (words .entry)) (now (words .exit)) (now (numbers .entry)) (now (numbers .exit)) ⌝ }

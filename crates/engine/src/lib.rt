@@ -2,12 +2,19 @@
 // `probe` hands them over as records. In `lent` the state is that of two lent arrays; here it goes by value.
 mod lent;
 
+use arrays::TIMES;
+use arrays::WORDS;
 use calls::Answer;
 use calls::Core;
 use calls::State;
+use events::NUMBERS;
 pub use lent::clock_in;
 pub use lent::packet_in;
+use programmes::MOST_LISTED;
+use sections::MEMORY;
+use sections::ROOMS;
 use watches::Entry;
+use watches::FIXED;
 ghost use mathlib.Core.Path.{_≡_};
 ghost use lib.ListN.{length, replicate};
 ghost use Rattle.calls.specs.Cores.{openedState};
@@ -23,14 +30,14 @@ fn opened_at(time: u64) -> State
         core: Core {
             lost: false,
             run: 0,
-            since: [time; 5],
+            since: [time; FIXED],
             count: 0,
             entries: [Entry {
                 number: 0,
                 pid: 0,
                 since: 0,
-            }; 16],
-            half: [0; 21],
+            }; MOST_LISTED],
+            half: [0; ROOMS],
         },
     }
 }
@@ -73,9 +80,9 @@ pub fn packet_at(
     time: u64,
     packet: &[u8],
     counters: &mut [u8],
-    memory: &mut [u8; 24576],
+    memory: &mut [u8; MEMORY],
     room: usize,
-    numbers: &mut [u64; 384],
+    numbers: &mut [u64; NUMBERS],
 ) -> Answer
     ensures { λ r. ⌜ (r ≡ answerOf (packetCall state time (now (packet .entry)) (now (counters .entry)) (now (memory .entry)) room))
         × (now (counters .exit) ≡ packetCall state time (now (packet .entry)) (now (counters .entry)) (now (memory .entry)) room .counters)
@@ -108,8 +115,8 @@ pub fn packet_at(
             },
         };
     }
-    let mut times = [0u64; 22];
-    let mut words = [0u16; 56];
+    let mut times = [0u64; TIMES];
+    let mut words = [0u16; WORDS];
     arrays::lay_times(state, &mut times);
     arrays::lay_words(state, &mut words);
     let r = lent::loud_packet(
@@ -142,16 +149,16 @@ pub fn packet_at(
 pub fn clock_at(
     state: State,
     time: u64,
-    memory: &[u8; 24576],
+    memory: &[u8; MEMORY],
     room: usize,
-    numbers: &mut [u64; 384],
+    numbers: &mut [u64; NUMBERS],
 ) -> Answer
     ensures { λ r. ⌜ (r ≡ answerOf (clockCall state time (now (memory .entry)) room))
         × Numbered (now (numbers .entry)) (now (numbers .exit)) (clockCall state time (now (memory .entry)) room .events) ⌝ }
 {
     let shape = arrays::typed(state);
-    let mut times = [0u64; 22];
-    let mut words = [0u16; 56];
+    let mut times = [0u64; TIMES];
+    let mut words = [0u16; WORDS];
     arrays::lay_times(state, &mut times);
     arrays::lay_words(state, &mut words);
     let r = lent::clock_in(&mut times, &mut words, time, memory, room, numbers);

@@ -1,3 +1,4 @@
+pub mod Numbers
 pub mod Boundary
 pub mod Sections
 pub mod Programmes

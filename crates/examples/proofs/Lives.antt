@@ -5,25 +5,26 @@ use mathlib.Core.List.{List, [], _∷_, _++_, map}
 use Prim.Native.Nat.{ℕ}
 use native.Mathlib.Omega.{arith}
 use lib.ListN.{replicate}
+use Rattle.lateness.specs.Gaps.{lived, judged}
 use Rattle.crc.specs.Crc.{crcStep, crcFeed, bits, bitsOf, crcOf}
 use Rattle.lists.specs.Places.{part}
-use Rattle.lateness.specs.Gaps.{lived, judged}
 use Rattle.lateness.specs.Logs.{Call, clock, packet}
 use Rattle.events.specs.Faults.{late}
 use Rattle.events.specs.Events.{eventAt}
-use Rattle.watches.specs.Late.{tablesLate, entriesLate}
+use Rattle.events.specs.Room.{leastRoom}
+use Rattle.watches.specs.Late.{rowsLate, tableRows}
 use Rattle.header.specs.Header.{headerOf}
 use Rattle.continuity.specs.Continuity.{countedOf}
-use Rattle.sections.specs.Rooms.{memorySize}
 use Rattle.sections.specs.Section.{stageOf}
 use Rattle.sections.specs.Building.{fed, built}
 use Rattle.sections.specs.Outcomes.{crcWrong, wholeOutcome}
-use Rattle.programmes.specs.Listing.{isNumber, sinceOf, readOn, listOf}
+use Rattle.sections.specs.Rooms.{memorySize}
 use Rattle.programmes.specs.Places.{placeOf, movedFrom, movedPlaces}
-use Rattle.calls.specs.Cores.{fixedRoom, roomFor, lateOf}
+use Rattle.programmes.specs.Listing.{isNumber, entryFor, readOn, listOf}
 use Rattle.calls.specs.Steps.{absorbedAll, sectionsTaken, step1}
 use Rattle.calls.specs.Sound.{timesSound, numberAmong, entriesSound, roomsFrom, stateSound}
-use Rattle.calls.specs.Calls.{openRefusal, packetRefusal, clockRefusal, packetCall, clockCall, tableSize, leastRoom}
+use Rattle.calls.specs.Calls.{openRefusal, packetRefusal, clockRefusal, packetCall, clockCall, tableSize}
+use Rattle.calls.specs.Cores.{fixedRoom, roomFor, lateOf}
 use Rattle.examples.specs.Packets.{packetOf, entry, patOf, pmtOf, starting}
 use Rattle.demands.specs.Runs.{AllAccepted, opening, Opened}
 use Rattle.demands.specs.Listening.{paired, roomOn, heardAll, listen1}
@@ -63,7 +64,7 @@ pub record Log : Type 0 where
   pub one-life : livesOf (fixed 0) 0 memory log ≡ lived 0 (1 ∷ 13_500_010 ∷ 20_000_000 ∷ []) 33_500_001 ∷ []
 
 judged-log : Log
-unfolding packetCall clockCall packetRefusal clockRefusal openRefusal stateSound timesSound entriesSound numberAmong roomsFrom lateOf tablesLate entriesLate roomFor fixedRoom placeOf step1 sectionsTaken absorbedAll built fed stageOf part wholeOutcome crcWrong crcOf crcFeed crcStep bits bitsOf headerOf countedOf listOf readOn isNumber sinceOf movedFrom movedPlaces paired roomOn heardAll listen1
+unfolding packetCall clockCall packetRefusal clockRefusal openRefusal stateSound timesSound entriesSound numberAmong roomsFrom lateOf rowsLate tableRows roomFor fixedRoom placeOf step1 sectionsTaken absorbedAll built fed stageOf part wholeOutcome crcWrong crcOf crcFeed crcStep bits bitsOf headerOf countedOf listOf readOn isNumber entryFor movedFrom movedPlaces paired roomOn heardAll listen1
 judged-log =
     record {
       opens = record { accepted = refl; whole = refl };

@@ -1,20 +1,21 @@
 -- Worked examples of docs/DECISIONS.md on steps 1 to 5 and on refusals, computed from the definitions. Assumes nothing.
 use mathlib.Core.Path.{_≡_, refl}
 use mathlib.Core.List.{List, [], _∷_, _++_, map}
-use Prim.Native.Nat.{ℕ, suc, _+_, _^_}
+use Prim.Native.Nat.{ℕ, suc, _+_, _^_, _-_}
 use lib.ListN.{getD, replicate}
 use Rattle.crc.specs.Crc.{crcStep, crcFeed, bits, bitsOf, crcOf}
 use Rattle.lists.specs.Places.{part}
 use Rattle.lateness.specs.Logs.{Call, packet}
 use Rattle.events.specs.declared.Event.{Event}
 use Rattle.events.specs.Events.{eventAt}
-use Rattle.watches.specs.Late.{tablesLate, entriesLate}
+use Rattle.events.specs.Room.{leastRoom}
+use Rattle.watches.specs.Late.{rowsLate, tableRows}
 use Rattle.header.specs.Header.{headerOf}
 use Rattle.continuity.specs.Continuity.{countedOf}
 use Rattle.sections.specs.Section.{stageOf}
 use Rattle.sections.specs.Building.{fed, built}
 use Rattle.sections.specs.Outcomes.{crcWrong, wholeOutcome}
-use Rattle.programmes.specs.Listing.{isNumber, sinceOf, readOn, listOf}
+use Rattle.programmes.specs.Listing.{isNumber, entryFor, readOn, listOf}
 use Rattle.programmes.specs.Places.{placeOf, movedFrom, movedPlaces}
 use Rattle.calls.specs.declared.Core.{Core}
 use Rattle.calls.specs.Cores.{fixedRoom, roomFor, lateOf, openedState}
@@ -86,12 +87,12 @@ pub record Table : Type 0 where
   -- K8: the transport error bit is looked at before PID 0x1FFF
   pub error-before-null : events (packet 0 (0x47 ∷ 0x9F ∷ 0xFF ∷ 0x10 ∷ replicate 184 0) ∷ []) ≡ (eventAt 0 0x0011 0 0x1FFF ∷ []) ∷ []
   -- C1: all that is wrong at once, and then each put right in turn
-  pub lowest-number-wins : refusalOf 4 [] [] 0 ∷ refusalOf (suc (2 ^ 62)) (replicate 188 0) [] 0 ∷ refusalOf (suc (2 ^ 62)) (replicate 188 0) zeros 95 ∷ refusalOf (suc (2 ^ 62)) (replicate 188 0) zeros 96 ∷ refusalOf 4 (replicate 188 0) (1 ∷ replicate 8191 0) 96 ∷ refusalOf 4 (replicate 188 0) zeros 96 ∷ refusalOf 5 (replicate 188 0) zeros 96 ∷ [] ≡ 1 ∷ 2 ∷ 3 ∷ 4 ∷ 5 ∷ 6 ∷ 0 ∷ []
+  pub lowest-number-wins : refusalOf 4 [] [] 0 ∷ refusalOf (suc (2 ^ 62)) (replicate 188 0) [] 0 ∷ refusalOf (suc (2 ^ 62)) (replicate 188 0) zeros (leastRoom - 1) ∷ refusalOf (suc (2 ^ 62)) (replicate 188 0) zeros leastRoom ∷ refusalOf 4 (replicate 188 0) (1 ∷ replicate 8191 0) leastRoom ∷ refusalOf 4 (replicate 188 0) zeros leastRoom ∷ refusalOf 5 (replicate 188 0) zeros leastRoom ∷ [] ≡ 1 ∷ 2 ∷ 3 ∷ 4 ∷ 5 ∷ 6 ∷ 0 ∷ []
   -- opening: 2 before 4
   pub table-before-time : openRefusal (suc (2 ^ 62)) [] ∷ openRefusal (suc (2 ^ 62)) zeros ∷ openRefusal (2 ^ 62) zeros ∷ [] ≡ 2 ∷ 4 ∷ 0 ∷ []
 
 pub table : Table
-unfolding resultsFrom packetCall clockCall packetRefusal clockRefusal openRefusal stateSound timesSound entriesSound numberAmong roomsFrom lateOf tablesLate entriesLate roomFor fixedRoom placeOf step1 sectionsTaken absorbedAll built fed stageOf part wholeOutcome crcWrong crcOf crcFeed crcStep bits bitsOf headerOf countedOf listOf readOn isNumber sinceOf movedFrom movedPlaces
+unfolding resultsFrom packetCall clockCall packetRefusal clockRefusal openRefusal stateSound timesSound entriesSound numberAmong roomsFrom lateOf rowsLate tableRows roomFor fixedRoom placeOf step1 sectionsTaken absorbedAll built fed stageOf part wholeOutcome crcWrong crcOf crcFeed crcStep bits bitsOf headerOf countedOf listOf readOn isNumber entryFor movedFrom movedPlaces
 table =
     record {
       repeat-with-wrong-length = refl;

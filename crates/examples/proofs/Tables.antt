@@ -9,15 +9,17 @@ use Rattle.lists.specs.Places.{part}
 use Rattle.lateness.specs.Logs.{Call, packet}
 use Rattle.events.specs.declared.Event.{Event}
 use Rattle.events.specs.Events.{eventAt}
+use Rattle.events.specs.Room.{leastRoom}
 use Rattle.watches.specs.declared.Entry.{Entry}
 use Rattle.watches.specs.Tables.{noEntry}
-use Rattle.watches.specs.Late.{tablesLate, entriesLate}
+use Rattle.watches.specs.Late.{rowsLate, tableRows}
 use Rattle.header.specs.Header.{headerOf}
 use Rattle.continuity.specs.Continuity.{countedOf}
 use Rattle.sections.specs.Section.{stageOf}
 use Rattle.sections.specs.Building.{fed, built}
 use Rattle.sections.specs.Outcomes.{crcWrong, wholeOutcome}
-use Rattle.programmes.specs.Listing.{isNumber, sinceOf, readOn, listOf}
+use Rattle.sections.specs.Rooms.{roomCount}
+use Rattle.programmes.specs.Listing.{isNumber, entryFor, readOn, listOf}
 use Rattle.programmes.specs.Places.{placeOf, movedFrom, movedPlaces}
 use Rattle.calls.specs.declared.Core.{Core}
 use Rattle.calls.specs.declared.State.{State}
@@ -59,7 +61,7 @@ abbrev gaps : List ℕ
 gaps = replicate 5 0
 
 abbrev noHalf : List ℕ
-noHalf = replicate 21 0
+noHalf = replicate roomCount 0
 
 abbrev programme : ℕ → ℕ → ℕ → Entry
 programme n q s = record { number = n; pid = q; since = s }
@@ -73,7 +75,7 @@ abbrev memory : List ℕ
 memory = replicate 23552 0 ++ (0x02 ∷ 0xB3 ∷ 0xFF ∷ replicate 1021 0)
 
 abbrev clockOn : State → List ℕ → ℕ
-clockOn s m = clockRefusal s 9 m 96
+clockOn s m = clockRefusal s 9 m leastRoom
 
 pub record Table : Type 0 where
   -- S8: NIT other and SDT other on their PIDs end no gap and give nothing; a torn section of any table_id is seen
@@ -99,10 +101,10 @@ pub record Table : Type 0 where
   pub a-gap-start-to-come : clockOn (forged 5 (set gaps 4 7) 0 noEntry noHalf) [] ≡ 0
   pub an-entry-behind-the-list : clockOn (forged 5 gaps 0 (programme 0 0x1FFF (suc (2 ^ 62))) noHalf) [] ≡ 0
   -- C2: the table byte is looked at where the packet is judged no further: a wrong first byte
-  pub byte-of-a-wrong-packet : packetRefusal (openedState 0) 0 (replicate 188 0) (1 ∷ replicate 8191 0) [] 96 ≡ 5
+  pub byte-of-a-wrong-packet : packetRefusal (openedState 0) 0 (replicate 188 0) (1 ∷ replicate 8191 0) [] leastRoom ≡ 5
 
 pub table : Table
-unfolding resultsFrom packetCall clockCall packetRefusal clockRefusal openRefusal stateSound timesSound entriesSound numberAmong roomsFrom lateOf tablesLate entriesLate roomFor fixedRoom placeOf step1 sectionsTaken absorbedAll built fed stageOf part wholeOutcome crcWrong crcOf crcFeed crcStep bits bitsOf headerOf countedOf listOf readOn isNumber sinceOf movedFrom movedPlaces
+unfolding resultsFrom packetCall clockCall packetRefusal clockRefusal openRefusal stateSound timesSound entriesSound numberAmong roomsFrom lateOf rowsLate tableRows roomFor fixedRoom placeOf step1 sectionsTaken absorbedAll built fed stageOf part wholeOutcome crcWrong crcOf crcFeed crcStep bits bitsOf headerOf countedOf listOf readOn isNumber entryFor movedFrom movedPlaces
 table =
     record {
       foreign-tables-are-silent = refl;

@@ -14,11 +14,12 @@ use lib.ListN.{length, replicate}
 use Rattle.crc.specs.Crc.{crcOf, crcBytes}
 use Rattle.lateness.specs.Logs.{Call, clock, packet}
 use Rattle.events.specs.declared.Event.{Event}
+use Rattle.events.specs.Room.{leastRoom}
 use Rattle.sections.specs.Rooms.{memorySize}
 use Rattle.calls.specs.declared.State.{State}
 use Rattle.calls.specs.declared.Core.{Core}
+use Rattle.calls.specs.Calls.{Result, packetCall, clockCall, tableSize}
 use Rattle.calls.specs.Cores.{openedState}
-use Rattle.calls.specs.Calls.{Result, packetCall, clockCall, tableSize, leastRoom}
 
 abbrev pub stuffed : ℕ → List ℕ → List ℕ
 stuffed n l = l ++ replicate (n - length l) 0xFF

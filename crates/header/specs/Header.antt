@@ -1,6 +1,7 @@
 -- The fields of a packet: document 01, "Judging one packet", and ISO/IEC 13818-1, 2.4.3.2 to 2.4.3.5. p is the packet's 188 bytes.
 --
---   rightSync p     == its first byte is 0x47
+--   syncByte        == 0x47, the first byte of a packet
+--   rightSync p     == its first byte is that
 --   errorBit, unitStart p == transport_error_indicator, payload_unit_start_indicator
 --   pidOf p         == its 13 PID bits
 --   scrambledBits p == transport_scrambling_control is not 00
@@ -26,8 +27,11 @@ use Rattle.header.specs.declared.Header.{Header}
 abbrev pub packetSize : ℕ
 packetSize = 188
 
+abbrev pub syncByte : ℕ
+syncByte = 0x47
+
 abbrev pub rightSync : List ℕ → Bool
-rightSync p = eqb (getD p 0 0) 0x47
+rightSync p = eqb (getD p 0 0) syncByte
 
 abbrev pub errorBit : List ℕ → Bool
 errorBit p = leb 128 (getD p 1 0)

@@ -5,7 +5,10 @@ ghost use Prim.Native.Nat.{_+_, _*_, _%_, _<_};
 ghost use lib.ListN.{length};
 ghost use Rattle.header.specs.Header.{packetSize, rightLength, payloadPlace, headerOf};
 
-const PACKET_SIZE: usize = 188;
+// The bytes of a packet, and the first of them.
+pub const PACKET_SIZE: usize = 188;
+
+pub const SYNC_BYTE: u8 = 0x47;
 
 // What steps 2 to 5 look at.
 pub struct Header {

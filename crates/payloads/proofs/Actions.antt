@@ -17,7 +17,7 @@ use Rattle.sections.specs.Outcomes.{isPmtRoom, outcomeOf}
 use Rattle.sections.proofs.Jobs.{behind, fed-behind, SoundJob, moved, fed-moved}
 use Rattle.programmes.specs.Places.{movedHalves, movedBytes}
 use Rattle.calls.specs.declared.Core.{Core}
-use Rattle.calls.specs.Cores.{Held, listed}
+use Rattle.calls.specs.Cores.{Held, listed, withList, withHalf}
 use Rattle.calls.specs.Steps.{arrivedTable, arrivedProgramme, newList, listedBy, relisted, listEvents, Absorbed, bytesOf, absorbedBy, absorbed, absorbedAll, builtIn}
 use Rattle.payloads.specs.Taking.{held}
 use Rattle.payloads.specs.Parts.{cameTo}
@@ -34,19 +34,7 @@ led es a = record { held = a .held; events = es ++ a .events }
 -- THE PAT'S SECTION: the list is read, and half-built sections move with it
 module _ (t : ℕ) (j : Job) (s : List ℕ) (c : Core) (m₀ x : List ℕ) (q : SoundJob patRoom j) (halves : 5 ≤ length (c .half)) where
   abbrev relistedTo : List ℕ → List ℕ → Held
-  relistedTo ns m =
-      record {
-        core =
-            record {
-              lost = c .lost;
-              run = c .run;
-              since = set (c .since) patRoom t;
-              count = newList t x c .count;
-              entries = newList t x c .entries;
-              half = ns;
-            };
-        memory = m;
-      }
+  relistedTo ns m = record { core = withHalf ns (withList (newList t x c .count) (newList t x c .entries) (arrivedTable t patRoom c)); memory = m }
 
   fed-on-moved : fed patRoom (moved (movedBytes (listed c) (listedBy (newList t x c)) (c .half)) j) s ≡ moved (movedBytes (listed c) (listedBy (newList t x c)) (c .half)) (fed patRoom j s)
   fed-on-moved = fed-moved patRoom (movedBytes (listed c) (listedBy (newList t x c)) (c .half)) (omega arith) (bytes-elsewhere (listed c) (listedBy (newList t x c)) (c .half)) j s q

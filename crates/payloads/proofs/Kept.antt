@@ -10,6 +10,7 @@ use lib.Seq.{length-take-le}
 use Rattle.lists.proofs.Tests.{Order, below, from, order}
 use Rattle.lists.proofs.Laying.{laid-length}
 use Rattle.events.specs.Events.{numbersOf}
+use Rattle.events.specs.Room.{recordWidth}
 use Rattle.watches.specs.declared.Entry.{Entry}
 use Rattle.sections.specs.declared.Outcome.{Outcome}
 use Rattle.sections.specs.declared.Outcome.the-variants.{Unfinished, Good, Fault, Silent}
@@ -21,8 +22,8 @@ use Rattle.sections.specs.Steps.{stepOutcome}
 use Rattle.programmes.specs.Places.{halfAt, movedFrom, movedHalves}
 use Rattle.programmes.proofs.Moves.{placed}
 use Rattle.calls.specs.declared.Core.{Core}
-use Rattle.calls.specs.Cores.{Held, listed}
 use Rattle.calls.specs.Steps.{arrivedTable, arrivedProgramme, newList, listedBy, relisted, bytesOf, absorbedBy, absorbedAll}
+use Rattle.calls.specs.Cores.{Held, listed}
 use Rattle.payloads.specs.Taking.{held}
 use Rattle.payloads.specs.Parts.{acted, Left, Shown, Fit}
 use Rattle.programmes.proofs.Moved.{moved-length}
@@ -76,7 +77,7 @@ fit-acted t r pid g x c m list m′ list′ n a f s most =
       listed = most;
       rooms = rw (s .core) (k .rooms);
       halves = rw (s .core) (k .halves);
-      numbers = omega (arith, f .numbers, ap length (s .laid) ∙ laid-length numbersOf 4 list n (acted t r pid g x (held c m) .events));
+      numbers = omega (arith, f .numbers, ap length (s .laid) ∙ laid-length numbersOf recordWidth list n (acted t r pid g x (held c m) .events));
     }
 
 -- the section that went on, or none

@@ -12,6 +12,7 @@ use Rattle.lists.proofs.Tests.{cond-either}
 use Rattle.lists.proofs.Turns.{rest-all}
 use Rattle.lists.proofs.Laying.{laid-none, laid-length, laid-turn}
 use Rattle.events.specs.Events.{numbersOf}
+use Rattle.events.specs.Room.{recordWidth}
 use Rattle.sections.specs.declared.Stage.{Stage}
 use Rattle.sections.specs.declared.Stage.the-variants.{More, Bad, Whole}
 use Rattle.sections.specs.declared.Laid.{Laid}
@@ -60,7 +61,7 @@ pub gone-none : (t r pid : ℕ) (m : List ℕ) (n : ℕ) (s : List ℕ) (c : Cor
 unfolding absorbedAll
 gone-none t r pid m n s c place list z =
     let e = ap (λ j. fed r j s) (going-none m n (eq-eqb n 0 z)) ∙ fed-done r (record { mode = done; memory = m; half = n; finished = [] }) s refl in
-    rw e (record { shown = record { core = refl; memory = refl; next = sym (add-zero place); laid = sym (laid-none numbersOf 4 list place) }; half = sym z; stop = refl })
+    rw e (record { shown = record { core = refl; memory = refl; next = sym (add-zero place); laid = sym (laid-none numbersOf recordWidth list place) }; half = sym z; stop = refl })
 
 -- one is, and a step lays bytes behind it
 pub record HalfBuilt (r : ℕ) (m : List ℕ) (n : ℕ) (s : List ℕ) (l : Laid) (m′ : List ℕ) (c : Core) (list : List ℕ) : Type 0 where
@@ -98,7 +99,7 @@ module _ {r : ℕ} {m : List ℕ} {n : ℕ} {s : List ℕ} {l : Laid} {m′ : Li
     unfolding absorbedAll
     gone-waits e =
         let z = ap (λ j. fed r j s) (going-some m n (ne-eqb n 0 (q .some))) ∙ step-waits t r pid m n s l m′ (q .room) (q .fit .whole) (q .more) (q .step) (q .memory) going goes (starts s) e in
-        rw z (record { shown = record { core = refl; memory = refl; next = sym (add-zero place); laid = sym (laid-none numbersOf 4 list place) }; half = refl; stop = refl })
+        rw z (record { shown = record { core = refl; memory = refl; next = sym (add-zero place); laid = sym (laid-none numbersOf recordWidth list place) }; half = refl; stop = refl })
 
     pub gone-acts : {b : Left} {m″ list′ : List ℕ} → Shown (acted t r pid (l .stage) (halfBuilt m′ r (l .length)) (held c m′)) place list list′ m″ b → isMore (l .stage) ≡ false
         → Gone t r pid (fed r (goingOn m n) s) c place list list′ m″ (record { core = b .core; n = b .n; half = 0; stopped = isBad (l .stage) })
@@ -139,7 +140,7 @@ shown-as {a = a} {n = n} {list₀ = list₀} {list = list} {m = m} e x = subst (
 pub shown-led : (a b : Absorbed) (n : ℕ) (list₀ list list′ m m′ : List ℕ) (g g′ : Left)
     → Shown a n list₀ list m g → Shown b (g .n) list list′ m′ g′ → Shown (led (a .events) b) n list₀ list′ m′ g′
 shown-led a b n list₀ list list′ m m′ g g′ x y =
-    let w = laid-turn numbersOf 4 (λ e. refl) n (g .n) (g′ .n) list₀ list list′ (a .events) (b .events) (x .next) (x .laid) (y .next) (y .laid) in
+    let w = laid-turn numbersOf recordWidth (λ e. refl) n (g .n) (g′ .n) list₀ list list′ (a .events) (b .events) (x .next) (x .laid) (y .next) (y .laid) in
     record { core = y .core; memory = y .memory; next = w .0; laid = w .1 }
 
 -- an idle job leaves the room as it says
@@ -147,7 +148,7 @@ pub shown-idle : (t r pid : ℕ) (j : Job) (c : Core) (n half : ℕ) (list : Lis
     → Shown (cameTo t r pid j (held c (j .memory))) n list list (j .memory) g
 unfolding absorbedAll
 shown-idle t r pid j c n half list g e eh eg =
-    rw (e, eg, eh) (record { core = refl; memory = refl; next = sym (add-zero n); laid = sym (laid-none numbersOf 4 list n) })
+    rw (e, eg, eh) (record { core = refl; memory = refl; next = sym (add-zero n); laid = sym (laid-none numbersOf recordWidth list n) })
 
 -- a half-built section has gone on: what it came to, and what it was given
 pub record Resuming (t r pid : ℕ) (m : List ℕ) (n : ℕ) (s : List ℕ) (c : Core) (place : ℕ) (list list₁ m₁ : List ℕ) (g : Went) : Type 0 where
@@ -186,7 +187,7 @@ module _ {t r pid : ℕ} {m : List ℕ} {n : ℕ} {s : List ℕ} {c : Core} {pla
         listed = most;
         rooms = rw (q .gone .shown .core) (k .rooms);
         halves = rw (q .gone .shown .core) (k .halves);
-        numbers = omega (arith, q .fit .numbers, ap length (q .gone .shown .laid) ∙ laid-length numbersOf 4 list place (acts .events));
+        numbers = omega (arith, q .fit .numbers, ap length (q .gone .shown .laid) ∙ laid-length numbersOf recordWidth list place (acts .events));
       }
 
   -- nothing more is read

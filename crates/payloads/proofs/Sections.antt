@@ -11,6 +11,7 @@ use Rattle.lists.proofs.Laying.{laid-none, laid-turn}
 use Rattle.lists.proofs.Turns.{drop-turn, drop-none}
 use Rattle.events.specs.declared.Event.{Event}
 use Rattle.events.specs.Events.{numbersOf, eventsLaid}
+use Rattle.events.specs.Room.{recordWidth}
 use Rattle.sections.specs.declared.Stage.{Stage}
 use Rattle.sections.specs.declared.Stage.the-variants.{More, Bad, Whole}
 use Rattle.sections.specs.declared.Laid.{Laid}
@@ -101,7 +102,7 @@ pub record Reached (t r pid : ℕ) (a : Absorbed) (n₀ : ℕ) (list₀ : List �
 
 pub reached-begins : (t r pid : ℕ) (n : ℕ) (list : List ℕ) (j : Job) (s : List ℕ) (c : Core)
     → Reached t r pid (cameTo t r pid (fed r j s) (held c (j .memory))) n list j s c n list
-reached-begins t r pid n list j s c = record { events = []; next = sym (add-zero n); laid = sym (laid-none numbersOf 4 list n); same = refl }
+reached-begins t r pid n list j s c = record { events = []; next = sym (add-zero n); laid = sym (laid-none numbersOf recordWidth list n); same = refl }
 
 -- a section more has acted
 pub reached-acts : (t r pid : ℕ) (a : Absorbed) (n₀ : ℕ) (list₀ : List ℕ) (j j′ : Job) (s s′ : List ℕ) (c : Core) (n : ℕ) (list list′ : List ℕ) (b : Absorbed) (m : List ℕ) (g : Left)
@@ -109,7 +110,7 @@ pub reached-acts : (t r pid : ℕ) (a : Absorbed) (n₀ : ℕ) (list₀ : List �
     → cameTo t r pid (fed r j s) (held c (j .memory)) ≡ led (b .events) (cameTo t r pid (fed r j′ s′) (b .held)) → j′ .memory ≡ b .held .memory
     → Reached t r pid a n₀ list₀ j′ s′ (g .core) (g .n) list′
 reached-acts t r pid a n₀ list₀ j j′ s s′ c n list list′ b m g i sh e em =
-    let w = laid-turn numbersOf 4 (λ x. refl) n₀ n (g .n) list₀ list list′ (i .events) (b .events) (i .next) (i .laid) (sh .next) (sh .laid) in
+    let w = laid-turn numbersOf recordWidth (λ x. refl) n₀ n (g .n) list₀ list list′ (i .events) (b .events) (i .next) (i .laid) (sh .next) (sh .laid) in
     let h : b .held ≡ held (g .core) (j′ .memory) = ap₂ held (sym (sh .core)) (sym em) in
     record {
       events = i .events ++ b .events;

@@ -13,12 +13,13 @@
 --   Went               == what the code has left where a half-built section went on: also the bytes in the room, and whether the rest is ignored
 --   Gone t r pid j c .. == the code shows the sections of a job j acting from the core c; the bytes in the room, and whether it is stopped, are the job's
 --   Fit c m list       == what a section may act on: section memory whole, at most sixteen listed, half-built sections of the list's places
---                         within their rooms, places for 96 events
+--                         within their rooms, places for the least event list
 use mathlib.Core.Path.{_≡_}
 use mathlib.Core.Bool.{Bool, true, false}
 use mathlib.Core.List.{List, []}
 use Prim.Native.Nat.{ℕ, _+_, _≤_, _<_}
 use lib.ListN.{length, set}
+use Rattle.events.specs.Room.{numberRoom}
 use Rattle.events.specs.Events.{eventsLaid}
 use Rattle.sections.specs.declared.Stage.{Stage}
 use Rattle.sections.specs.declared.Stage.the-variants.{More, Bad, Whole}
@@ -91,4 +92,4 @@ pub record Fit (c : Core) (m list : List ℕ) : Type 0 where
   pub listed : c .count ≤ mostListed
   pub rooms : 5 ≤ length (c .half)
   pub halves : (k : ℕ) → k < mostListed → halfAt (c .half) (roomOfPlace k) ≤ 1024
-  pub numbers : 384 ≤ length list
+  pub numbers : numberRoom ≤ length list

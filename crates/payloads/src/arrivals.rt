@@ -1,20 +1,27 @@
 // What a section does at its end: its event is laid, and a good one ends a gap; that of the PAT has the list.
+use events::BAD;
+use events::PAT_ERROR;
 use programmes::Listed;
+use programmes::MOST_LISTED;
+use sections::MEMORY;
 use sections::Outcome;
+use sections::PAT_ROOM;
 use sections::Stage;
 use watches::Entry;
+use watches::FIXED;
 ghost use mathlib.Core.Path.{_≡_};
 ghost use mathlib.Core.Bool.{cond, _&&_};
 ghost use mathlib.Core.List.{List, [], _∷_};
 ghost use Prim.Native.Nat.{ℕ, _+_, _≤_, _<_};
 ghost use lib.Dec.{eqb};
 ghost use lib.ListN.{length, take};
+ghost use Rattle.events.specs.Room.{leastRoom, numberRoom};
 ghost use Rattle.events.specs.Faults as fault;
 ghost use Rattle.events.specs.Events.{eventAt, eventsLaid};
 ghost use Rattle.sections.specs.Rooms.{memorySize, roomCount, roomBase, patRoom, roomOfPlace, halfBuilt};
 ghost use Rattle.sections.specs.Outcomes.{eventsOf};
 ghost use Rattle.sections.specs.Steps.{stepOutcome};
-ghost use Rattle.programmes.specs.Listing.{listOf};
+ghost use Rattle.programmes.specs.Listing.{listOf, mostListed};
 ghost use Rattle.programmes.specs.Places.{halfAt, movedHalves, movedBytes};
 ghost use Rattle.calls.specs.Cores.{withHalf};
 ghost use Rattle.calls.specs.Steps.{newList, relisted, arrivedIn};
@@ -22,18 +29,16 @@ ghost use Rattle.arrays.specs.Lent.{wordCount, countIn, halvesIn, coreIn, Sized
 ghost use Rattle.payloads.specs.Taking.{held};
 ghost use Rattle.payloads.specs.Parts.{acted, left, Shown, Fit};
 
-const PAT_ROOM: usize = 0;
-
-const FIXED_ROOMS: usize = 5;
-
-const PAT_ERROR: u16 = 0x0009;
-
-const BAD: u8 = 4;
-
 // The list of a good PAT section, the first bytes of section memory; old is the list just replaced.
-fn list_in(memory: &[u8], size: usize, time: u64, old: [Entry; 16], old_count: usize) -> Listed
-    requires { ⌜ (length (now memory) ≡ memorySize) × («old_count» ≤ 16) × (size ≤ memorySize) ⌝ }
-    ensures { λ r. ⌜ (r ≡ listOf time (take «old_count» old) (halfBuilt (now (memory .entry)) patRoom size)) × (r .count ≤ 16) ⌝ }
+fn list_in(
+    memory: &[u8],
+    size: usize,
+    time: u64,
+    old: [Entry; MOST_LISTED],
+    old_count: usize,
+) -> Listed
+    requires { ⌜ (length (now memory) ≡ memorySize) × («old_count» ≤ mostListed) × (size ≤ memorySize) ⌝ }
+    ensures { λ r. ⌜ (r ≡ listOf time (take «old_count» old) (halfBuilt (now (memory .entry)) patRoom size)) × (r .count ≤ mostListed) ⌝ }
 {
     programmes::read_list(time, old, old_count, &memory[0..size])
 }
@@ -50,14 +55,14 @@ fn outcome_in(memory: &[u8], room: usize, size: usize, stage: Stage, pid: u16) -
 // Half-built sections stay with their PIDs as a list is replaced; mostly there are none.
 fn keep_sections(
     words: &mut [u16],
-    memory: &mut [u8; 24576],
-    old: [Entry; 16],
+    memory: &mut [u8; MEMORY],
+    old: [Entry; MOST_LISTED],
     old_count: usize,
-    new: [Entry; 16],
+    new: [Entry; MOST_LISTED],
     new_count: usize,
 )
-    requires { ⌜ (length (now words) ≡ wordCount) × (length (now memory) ≡ memorySize) × («old_count» ≤ 16) × («new_count» ≤ 16) ⌝ }
-    requires { ⌜ ((k : ℕ) → k < 16 → halfAt (halvesIn (now words)) (roomOfPlace k) ≤ 1024) ⌝ }
+    requires { ⌜ (length (now words) ≡ wordCount) × (length (now memory) ≡ memorySize) × («old_count» ≤ mostListed) × («new_count» ≤ mostListed) ⌝ }
+    requires { ⌜ ((k : ℕ) → k < mostListed → halfAt (halvesIn (now words)) (roomOfPlace k) ≤ 1024) ⌝ }
     ensures { λ _. ⌜ ((times : List ℕ) → coreIn times (now (words .exit)) ≡ withHalf (movedHalves (take «old_count» old) (take «new_count» new) (halvesIn (now (words .entry)))) (coreIn times (now (words .entry))))
         × (now (memory .exit) ≡ movedBytes (take «old_count» old) (take «new_count» new) (halvesIn (now (words .entry))) (now (memory .entry)))
         × SyncKept (now (words .entry)) (now (words .exit)) ⌝ }
@@ -74,16 +79,16 @@ fn keep_sections(
 fn relist(
     times: &mut [u64],
     words: &mut [u16],
-    memory: &mut [u8; 24576],
+    memory: &mut [u8; MEMORY],
     size: usize,
     time: u64,
 ) -> bool
-    requires { ⌜ Sized (now times) (now words) × (length (now memory) ≡ memorySize) × (countIn (now words) ≤ 16) × (size ≤ memorySize) ⌝ }
-    requires { ⌜ ((k : ℕ) → k < 16 → halfAt (halvesIn (now words)) (roomOfPlace k) ≤ 1024) ⌝ }
+    requires { ⌜ Sized (now times) (now words) × (length (now memory) ≡ memorySize) × (countIn (now words) ≤ mostListed) × (size ≤ memorySize) ⌝ }
+    requires { ⌜ ((k : ℕ) → k < mostListed → halfAt (halvesIn (now words)) (roomOfPlace k) ≤ 1024) ⌝ }
     ensures { λ r. ⌜ (coreIn (now (times .exit)) (now (words .exit)) ≡ relisted time (halfBuilt (now (memory .entry)) patRoom size) (held (coreIn (now (times .entry)) (now (words .entry))) (now (memory .entry))) .core)
         × (now (memory .exit) ≡ relisted time (halfBuilt (now (memory .entry)) patRoom size) (held (coreIn (now (times .entry)) (now (words .entry))) (now (memory .entry))) .memory)
         × (r ≡ newList time (halfBuilt (now (memory .entry)) patRoom size) (coreIn (now (times .entry)) (now (words .entry))) .bad) ⌝ }
-    ensures { λ r. ⌜ Moved (now (times .entry)) (now (words .entry)) (now (times .exit)) (now (words .exit)) × (countIn (now (words .exit)) ≤ 16) ⌝ }
+    ensures { λ r. ⌜ Moved (now (times .entry)) (now (words .entry)) (now (times .exit)) (now (words .exit)) × (countIn (now (words .exit)) ≤ mostListed) ⌝ }
 {
     let old = arrays::entries_in(times, words);
     let old_count = arrays::count_in(words);
@@ -100,24 +105,24 @@ fn relist(
 fn arrive(
     times: &mut [u64],
     words: &mut [u16],
-    memory: &mut [u8; 24576],
+    memory: &mut [u8; MEMORY],
     room: usize,
     pid: u16,
     extension: u16,
     size: usize,
     time: u64,
 ) -> bool
-    requires { ⌜ Sized (now times) (now words) × (length (now memory) ≡ memorySize) × (countIn (now words) ≤ 16) × (size ≤ memorySize) × (room < roomCount) ⌝ }
-    requires { ⌜ ((k : ℕ) → k < 16 → halfAt (halvesIn (now words)) (roomOfPlace k) ≤ 1024) ⌝ }
+    requires { ⌜ Sized (now times) (now words) × (length (now memory) ≡ memorySize) × (countIn (now words) ≤ mostListed) × (size ≤ memorySize) × (room < roomCount) ⌝ }
+    requires { ⌜ ((k : ℕ) → k < mostListed → halfAt (halvesIn (now words)) (roomOfPlace k) ≤ 1024) ⌝ }
     ensures { λ r. ⌜ (coreIn (now (times .exit)) (now (words .exit)) ≡ arrivedIn time room pid extension (halfBuilt (now (memory .entry)) room size) (held (coreIn (now (times .entry)) (now (words .entry))) (now (memory .entry))) .core)
         × (now (memory .exit) ≡ arrivedIn time room pid extension (halfBuilt (now (memory .entry)) room size) (held (coreIn (now (times .entry)) (now (words .entry))) (now (memory .entry))) .memory)
         × (r ≡ (eqb room patRoom && newList time (halfBuilt (now (memory .entry)) room size) (coreIn (now (times .entry)) (now (words .entry))) .bad)) ⌝ }
-    ensures { λ r. ⌜ Moved (now (times .entry)) (now (words .entry)) (now (times .exit)) (now (words .exit)) × (countIn (now (words .exit)) ≤ 16) ⌝ }
+    ensures { λ r. ⌜ Moved (now (times .entry)) (now (words .entry)) (now (times .exit)) (now (words .exit)) × (countIn (now (words .exit)) ≤ mostListed) ⌝ }
 {
     if room == PAT_ROOM {
         return relist(times, words, memory, size, time);
     }
-    if FIXED_ROOMS <= room {
+    if FIXED <= room {
         arrays::end_pair(times, words, extension, pid, time);
         return false;
     }
@@ -127,7 +132,7 @@ fn arrive(
 
 // The event of an outcome, if it has one, laid at the place n; the next place.
 fn put_outcome(numbers: &mut [u64], n: usize, time: u64, o: Outcome) -> usize
-    requires { ⌜ (n < 96) × (384 ≤ length (now numbers)) ⌝ }
+    requires { ⌜ (n < leastRoom) × (numberRoom ≤ length (now numbers)) ⌝ }
     ensures { λ r. ⌜ (r ≡ n + length (eventsOf time o)) × (now (numbers .exit) ≡ eventsLaid (now (numbers .entry)) n (eventsOf time o)) ⌝ }
 {
     match o {
@@ -140,7 +145,7 @@ fn put_outcome(numbers: &mut [u64], n: usize, time: u64, o: Outcome) -> usize
 
 // A good PAT with a bad list gives an event, laid at the place n; the next place.
 fn put_list(numbers: &mut [u64], n: usize, time: u64, pid: u16, bad: bool) -> usize
-    requires { ⌜ (n < 96) × (384 ≤ length (now numbers)) ⌝ }
+    requires { ⌜ (n < leastRoom) × (numberRoom ≤ length (now numbers)) ⌝ }
     ensures { λ r. ⌜ (r ≡ n + length (cond bad (eventAt time fault.patError fault.bad pid ∷ []) []))
         × (now (numbers .exit) ≡ eventsLaid (now (numbers .entry)) n (cond bad (eventAt time fault.patError fault.bad pid ∷ []) [])) ⌝ }
 {
@@ -155,7 +160,7 @@ fn put_list(numbers: &mut [u64], n: usize, time: u64, pid: u16, bad: bool) -> us
 pub(crate) fn act(
     times: &mut [u64],
     words: &mut [u16],
-    memory: &mut [u8; 24576],
+    memory: &mut [u8; MEMORY],
     room: usize,
     pid: u16,
     stage: Stage,
@@ -165,10 +170,10 @@ pub(crate) fn act(
     n: usize,
 ) -> usize
     requires { ⌜ Sized (now times) (now words) × Fit (coreIn (now times) (now words)) (now memory) (now numbers) ⌝ }
-    requires { ⌜ (room < roomCount) × (roomBase room + size ≤ memorySize) × (n < 96) ⌝ }
+    requires { ⌜ (room < roomCount) × (roomBase room + size ≤ memorySize) × (n < leastRoom) ⌝ }
     ensures { λ r. ⌜ Shown (acted time room pid stage (halfBuilt (now (memory .entry)) room size) (held (coreIn (now (times .entry)) (now (words .entry))) (now (memory .entry))))
         n (now (numbers .entry)) (now (numbers .exit)) (now (memory .exit)) (left (coreIn (now (times .exit)) (now (words .exit))) r) ⌝ }
-    ensures { λ r. ⌜ Moved (now (times .entry)) (now (words .entry)) (now (times .exit)) (now (words .exit)) × (countIn (now (words .exit)) ≤ 16) × (r ≤ n + 1) ⌝ }
+    ensures { λ r. ⌜ Moved (now (times .entry)) (now (words .entry)) (now (times .exit)) (now (words .exit)) × (countIn (now (words .exit)) ≤ mostListed) × (r ≤ n + 1) ⌝ }
 {
     let o = outcome_in(memory, room, size, stage, pid);
     let Outcome::Good { extension } = o else {

@@ -2,14 +2,17 @@
 // section acts as soon as it is finished, since the next one is laid over it: `arrivals` has what it does.
 mod arrivals;
 
+use sections::MEMORY;
 use sections::Stage;
 ghost use mathlib.Core.Path.{_≡_};
 ghost use mathlib.Core.Bool.{true};
 ghost use Prim.Native.Nat.{_+_, _≤_, _<_};
 ghost use lib.ListN.{length};
+ghost use Rattle.events.specs.Room.{leastRoom};
 ghost use Rattle.sections.specs.Rooms.{roomCount, greatestLength, halfBuilt};
 ghost use Rattle.sections.specs.Section.{stageOf, isMore};
 ghost use Rattle.sections.specs.Building.{fed};
+ghost use Rattle.programmes.specs.Listing.{mostListed};
 ghost use Rattle.calls.specs.Steps.{sectionsTaken};
 ghost use Rattle.arrays.specs.Lent.{countIn, coreIn, Sized, Moved};
 ghost use Rattle.payloads.specs.Taking.{held, Takable};
@@ -45,7 +48,7 @@ fn is_bad(g: Stage) -> bool
 fn follow(
     times: &mut [u64],
     words: &mut [u16],
-    memory: &mut [u8; 24576],
+    memory: &mut [u8; MEMORY],
     room: usize,
     pid: u16,
     s: &[u8],
@@ -54,7 +57,7 @@ fn follow(
     n0: usize,
 ) -> Built
     requires { ⌜ Sized (now times) (now words) × Fit (coreIn (now times) (now words)) (now memory) (now numbers) ⌝ }
-    requires { ⌜ (room < roomCount) × (length (now s) ≤ 183) × (n0 + 61 ≤ 96) ⌝ }
+    requires { ⌜ (room < roomCount) × (length (now s) ≤ 183) × (n0 + 61 ≤ leastRoom) ⌝ }
     ensures { λ r. ⌜ Shown (cameTo time room pid (fed room (newSections (now (memory .entry))) (now (s .entry))) (held (coreIn (now (times .entry)) (now (words .entry))) (now (memory .entry))))
         n0 (now (numbers .entry)) (now (numbers .exit)) (now (memory .exit)) (finished room (r .half) (coreIn (now (times .exit)) (now (words .exit))) (r .n)) ⌝ }
     ensures { λ r. ⌜ Moved (now (times .entry)) (now (words .entry)) (now (times .exit)) (now (words .exit)) × (r .n ≤ n0 + 61) × (r .half < 65536) ⌝ }
@@ -97,7 +100,7 @@ fn follow(
 fn resume(
     times: &mut [u64],
     words: &mut [u16],
-    memory: &mut [u8; 24576],
+    memory: &mut [u8; MEMORY],
     room: usize,
     pid: u16,
     half: usize,
@@ -107,10 +110,10 @@ fn resume(
     n: usize,
 ) -> Resumed
     requires { ⌜ Sized (now times) (now words) × Fit (coreIn (now times) (now words)) (now memory) (now numbers) ⌝ }
-    requires { ⌜ (room < roomCount) × (length (now s) ≤ 184) × (n < 96) × (isMore (stageOf (greatestLength room) (halfBuilt (now memory) room half)) ≡ true) ⌝ }
+    requires { ⌜ (room < roomCount) × (length (now s) ≤ 184) × (n < leastRoom) × (isMore (stageOf (greatestLength room) (halfBuilt (now memory) room half)) ≡ true) ⌝ }
     ensures { λ r. ⌜ Gone time room pid (fed room (goingOn (now (memory .entry)) half) (now (s .entry))) (coreIn (now (times .entry)) (now (words .entry)))
         n (now (numbers .entry)) (now (numbers .exit)) (now (memory .exit)) (went (coreIn (now (times .exit)) (now (words .exit))) r) ⌝ }
-    ensures { λ r. ⌜ Moved (now (times .entry)) (now (words .entry)) (now (times .exit)) (now (words .exit)) × (countIn (now (words .exit)) ≤ 16) × (r .n ≤ n + 1) × (r .half ≤ 4096) ⌝ }
+    ensures { λ r. ⌜ Moved (now (times .entry)) (now (words .entry)) (now (times .exit)) (now (words .exit)) × (countIn (now (words .exit)) ≤ mostListed) × (r .n ≤ n + 1) × (r .half ≤ 4096) ⌝ }
 {
     if half == 0 {
         return Resumed {
@@ -151,7 +154,7 @@ fn resume(
 pub fn take_payload(
     times: &mut [u64],
     words: &mut [u16],
-    memory: &mut [u8; 24576],
+    memory: &mut [u8; MEMORY],
     room: usize,
     pid: u16,
     start: bool,

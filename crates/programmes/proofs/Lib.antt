@@ -1,4 +1,5 @@
 pub mod Searches
+pub mod Entries
 pub mod Reading
 pub mod Moves
 pub mod Moved

@@ -13,7 +13,7 @@ use Rattle.lists.proofs.Turns.{drop-four}
 use Rattle.watches.specs.declared.Entry.{Entry}
 use Rattle.programmes.specs.declared.Listed.{Listed}
 use Rattle.programmes.specs.declared.Addition.{Addition}
-use Rattle.programmes.specs.Listing.{isNumber, pidUnusable, mostListed, sinceOf, entered, madeBad, listedWith, readOn}
+use Rattle.programmes.specs.Listing.{isNumber, pidUnusable, mostListed, entryFor, entered, madeBad, listedWith, readOn}
 use Rattle.programmes.specs.Reading.{numberAt, pidIn, seenTo, marked, added}
 
 -- A NUMBER SEEN EARLIER: the nearest entry before, or one before that
@@ -61,9 +61,9 @@ module _ (t : ℕ) (old : List Entry) (seen : List ℕ) (n q c : ℕ) (usable : 
   entered-bad u l e = rw (some, grounds l e, u) (sym (marked-bad l))
 
   pub entered-listed : usable ≡ true → (l : Listed) → l .count ≡ c
-      → entered t old seen n q l ≡ listedWith (record { number = n; pid = q; since = sinceOf t old n q }) (marked false l)
+      → entered t old seen n q l ≡ listedWith (entryFor t old n q) (marked false l)
   entered-listed u l e =
-      rw (some, grounds l e, u) (ap (listedWith (record { number = n; pid = q; since = sinceOf t old n q })) (sym (marked-none l)))
+      rw (some, grounds l e, u) (ap (listedWith (entryFor t old n q)) (sym (marked-none l)))
 
 -- the list with what an entry adds, by whether it is listed: at most sixteen are
 pub added-turn : (r : Addition) (l next : Listed) → l .count ≤ 16 → (r .listed ≡ true → l .count < 16)

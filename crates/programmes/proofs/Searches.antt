@@ -8,24 +8,24 @@ use lib.ListN.{length, getD, take, drop}
 use Rattle.lists.proofs.Turns.{left-turn, left-none}
 use Rattle.watches.specs.declared.Entry.{Entry}
 use Rattle.watches.specs.Tables.{noEntry}
-use Rattle.programmes.specs.Listing.{isPair, sinceOf}
+use Rattle.programmes.specs.Listing.{isPair, entryFor}
 use Rattle.programmes.specs.Places.{placeOf}
 
 module _ (es : List Entry) (count i : ℕ) (fits : count ≤ length es) where
-  -- the watch of a pair
-  pub since-here : (t n q : ℕ) → i < count → isPair n q (getD es i noEntry) ≡ true
-      → sinceOf t (drop i (take count es)) n q ≡ getD es i noEntry .since
-  unfolding sinceOf
-  since-here t n q h e = rw (left-turn es count i noEntry h fits, e)
+  -- the entry of a pair
+  pub entry-here : (t n q : ℕ) → i < count → isPair n q (getD es i noEntry) ≡ true
+      → entryFor t (drop i (take count es)) n q ≡ getD es i noEntry
+  unfolding entryFor
+  entry-here t n q h e = rw (left-turn es count i noEntry h fits, e)
 
-  pub since-on : (t n q : ℕ) → i < count → isPair n q (getD es i noEntry) ≡ false
-      → sinceOf t (drop i (take count es)) n q ≡ sinceOf t (drop (i + 1) (take count es)) n q
-  unfolding sinceOf
-  since-on t n q h e = rw (left-turn es count i noEntry h fits, e)
+  pub entry-on : (t n q : ℕ) → i < count → isPair n q (getD es i noEntry) ≡ false
+      → entryFor t (drop i (take count es)) n q ≡ entryFor t (drop (i + 1) (take count es)) n q
+  unfolding entryFor
+  entry-on t n q h e = rw (left-turn es count i noEntry h fits, e)
 
-  pub since-none : (t n q : ℕ) → count ≤ i → sinceOf t (drop i (take count es)) n q ≡ t
-  unfolding sinceOf
-  since-none t n q h = rw (left-none es count i h fits)
+  pub entry-none : (t n q : ℕ) → count ≤ i → entryFor t (drop i (take count es)) n q ≡ record { number = n; pid = q; since = t }
+  unfolding entryFor
+  entry-none t n q h = rw (left-none es count i h fits)
 
   -- the first place with a PID
   pub place-here : (q : ℕ) → i < count → eqb (getD es i noEntry .pid) q ≡ true → placeOf q (drop i (take count es)) ≡ 0

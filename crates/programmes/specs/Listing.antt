@@ -4,7 +4,8 @@
 --   entriesOf s      == the bytes of the entries: those of the section but its first eight and its CRC_32
 --   isNumber n es    == n is among these numbers
 --   pidUnusable q    == a PID below 0x0020 or equal to 0x1FFF
---   sinceOf t old n q == a pair of number and PID that was listed before keeps its watch; a new pair begins one at this arrival
+--   entryFor t old n q == a pair of number and PID that was listed before keeps its watch: its whole old entry; a new pair begins one at this
+--                       arrival
 --   listedWith, madeBad == the list with one entry more; the list made bad, the entry ignored
 --   entered          == one entry: programme 0 is passed over; one with an unusable PID, with a number seen earlier in the section, or past the
 --                       sixteenth usable one makes the list bad
@@ -48,9 +49,9 @@ pidUnusable q = ltb q lowestPid || eqb q nullPid
 abbrev pub isPair : ℕ → ℕ → Entry → Bool
 isPair n q e = eqb (e .number) n && eqb (e .pid) q
 
-unfoldable pub sinceOf : ℕ → List Entry → ℕ → ℕ → ℕ
-sinceOf t [] n q = t
-sinceOf t (e ∷ es) n q = cond (isPair n q e) (e .since) (sinceOf t es n q)
+unfoldable pub entryFor : ℕ → List Entry → ℕ → ℕ → Entry
+entryFor t [] n q = record { number = n; pid = q; since = t }
+entryFor t (e ∷ es) n q = cond (isPair n q e) e (entryFor t es n q)
 
 abbrev pub madeBad : Listed → Listed
 madeBad l = record { count = l .count; bad = true; entries = l .entries }
@@ -62,7 +63,7 @@ abbrev pub entered : ℕ → List Entry → List ℕ → ℕ → ℕ → Listed 
 entered t old seen n q l =
     cond (eqb n 0) l
     (cond (pidUnusable q || (isNumber n seen || leb mostListed (l .count))) (madeBad l)
-    (listedWith (record { number = n; pid = q; since = sinceOf t old n q }) l))
+    (listedWith (entryFor t old n q) l))
 
 unfoldable pub readOn : ℕ → List Entry → List ℕ → Listed → List ℕ → Listed
 readOn t old seen l [] = l

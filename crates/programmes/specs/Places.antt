@@ -16,8 +16,9 @@ use lib.Dec.{ltb, eqb}
 use lib.ListN.{length, getD, take}
 use lib.Seq.{sets}
 use Rattle.watches.specs.declared.Entry.{Entry}
-use Rattle.watches.specs.Tables.{noEntry}
+use Rattle.watches.specs.Tables.{fixedCount, noEntry}
 use Rattle.sections.specs.Rooms.{roomOfPlace, roomBase, halfBuilt}
+use Rattle.programmes.specs.Listing.{mostListed}
 
 unfoldable pub placeOf : ℕ → List Entry → ℕ
 placeOf q [] = 0
@@ -48,7 +49,7 @@ movedFrom old new ns k zero = []
 movedFrom old new ns k (suc left) = movedHalf old new ns k ∷ movedFrom old new ns (k + 1) left
 
 abbrev pub movedHalves : List Entry → List Entry → List ℕ → List ℕ
-movedHalves old new ns = take 5 ns ++ movedFrom old new ns 0 16
+movedHalves old new ns = take fixedCount ns ++ movedFrom old new ns 0 mostListed
 
 -- the place k of the new list, its bytes taken from the memory m₀ that was there before any moved; ns are the new half-built lengths
 abbrev pub movedPlace : List Entry → List Entry → List ℕ → List ℕ → ℕ → List ℕ → List ℕ

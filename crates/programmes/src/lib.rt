@@ -1,6 +1,9 @@
 // The programme list in a good PAT section, and where its half-built sections stand (document 01, "The
 // programme list").
+use sections::MEMORY;
+use sections::ROOMS;
 use watches::Entry;
+use watches::FIXED;
 ghost use mathlib.Core.Path.{_≡_};
 ghost use mathlib.Core.Bool.{true, _||_, not};
 ghost use mathlib.Core.List.{[]};
@@ -9,8 +12,9 @@ ghost use lib.Dec.{leb};
 ghost use lib.ListN.{length, take};
 ghost use lib.Seq.{sets};
 ghost use Rattle.lists.specs.Places.{part};
+ghost use Rattle.watches.specs.Tables.{fixedCount};
 ghost use Rattle.sections.specs.Rooms.{memorySize, roomCount, roomOfPlace, roomBase, halfBuilt};
-ghost use Rattle.programmes.specs.Listing.{isPair, sinceOf, isNumber, pidUnusable, mostListed, entered, noneListed, readOn, listOf};
+ghost use Rattle.programmes.specs.Listing.{isPair, entryFor, isNumber, pidUnusable, mostListed, entered, noneListed, readOn, listOf};
 ghost use Rattle.programmes.specs.Reading.{numberAt, pidIn, seenTo, added};
 ghost use Rattle.programmes.specs.Places.{placeOf, halfAt, noneHalf, movedHalf, movedHalves, movedPlaces, movedBytes};
 ghost use Rattle.programmes.specs.Moving.{Placed, Stayed};
@@ -20,17 +24,15 @@ ghost use Rattle.programmes.specs.Moving.{Placed, Stayed};
 pub struct Listed {
     pub count: usize,
     pub bad: bool,
-    pub entries: [Entry; 16],
+    pub entries: [Entry; MOST_LISTED],
 }
 
-const MOST_LISTED: usize = 16;
+// How many programmes are listed at most, the lowest PID that one may have, and the PID of null packets.
+pub const MOST_LISTED: usize = 16;
 
-const LOWEST_PID: u16 = 0x0020;
+pub const LOWEST_PID: u16 = 0x0020;
 
-const NULL_PID: u16 = 0x1FFF;
-
-// the room of the first place
-const FIRST_ROOM: usize = 5;
+pub const NULL_PID: u16 = 0x1FFF;
 
 // Whether an entry is that of a pair of number and PID.
 fn is_pair(e: Entry, number: u16, pid: u16) -> bool
@@ -39,20 +41,24 @@ fn is_pair(e: Entry, number: u16, pid: u16) -> bool
     (e.number == number) & (e.pid == pid)
 }
 
-// The gap start of a pair: that of its watch where the pair was listed, else this arrival.
-fn since_of(t: u64, old: [Entry; 16], count: usize, number: u16, pid: u16) -> u64
-    requires { ⌜ count ≤ 16 ⌝ }
-    ensures { λ r. ⌜ r ≡ sinceOf t (take count old) number pid ⌝ }
+// The entry of a pair: its whole old one where the pair was listed, else one whose gap begins at this arrival.
+fn entry_for(t: u64, old: [Entry; MOST_LISTED], count: usize, number: u16, pid: u16) -> Entry
+    requires { ⌜ count ≤ mostListed ⌝ }
+    ensures { λ r. ⌜ r ≡ entryFor t (take count old) number pid ⌝ }
 {
     let mut i: usize = 0;
     while i < count {
         let e = old[i];
         if is_pair(e, number, pid) {
-            return e.since;
+            return e;
         }
         i += 1;
     }
-    t
+    Entry {
+        number: number,
+        pid: pid,
+        since: t,
+    }
 }
 
 // The programme number of the entry k.
@@ -112,14 +118,14 @@ struct Addition {
 fn read_one(
     count: usize,
     t: u64,
-    old: [Entry; 16],
+    old: [Entry; MOST_LISTED],
     old_count: usize,
     e: &[u8],
     k: usize,
 ) -> Addition
-    requires { ⌜ («old_count» ≤ 16) × (4 * k ≤ length (now e)) ⌝ }
+    requires { ⌜ («old_count» ≤ mostListed) × (4 * k ≤ length (now e)) ⌝ }
     ensures { λ r. ⌜ ((l : Listed) → l .count ≡ count → entered t (take «old_count» old) (seenTo (now (e .entry)) k) (numberAt (now (e .entry)) k) (pidIn (now (e .entry)) k) l ≡ added r l)
-        × (r .listed ≡ true → count < 16) ⌝ }
+        × (r .listed ≡ true → count < mostListed) ⌝ }
 {
     let number = number_at(e, k);
     let pid = pid_in(e, k);
@@ -142,22 +148,17 @@ fn read_one(
             entry: none,
         };
     }
-    let since = since_of(t, old, old_count, number, pid);
     Addition {
         bad: false,
         listed: true,
-        entry: Entry {
-            number: number,
-            pid: pid,
-            since: since,
-        },
+        entry: entry_for(t, old, old_count, number, pid),
     }
 }
 
 // The list of the entries e; old is the list just replaced.
-fn read_entries(t: u64, old: [Entry; 16], old_count: usize, e: &[u8]) -> Listed
-    requires { ⌜ «old_count» ≤ 16 ⌝ }
-    ensures { λ r. ⌜ (r ≡ readOn t (take «old_count» old) [] noneListed (now (e .entry))) × (r .count ≤ 16) ⌝ }
+fn read_entries(t: u64, old: [Entry; MOST_LISTED], old_count: usize, e: &[u8]) -> Listed
+    requires { ⌜ «old_count» ≤ mostListed ⌝ }
+    ensures { λ r. ⌜ (r ≡ readOn t (take «old_count» old) [] noneListed (now (e .entry))) × (r .count ≤ mostListed) ⌝ }
 {
     let mut l = Listed {
         count: 0,
@@ -166,7 +167,7 @@ fn read_entries(t: u64, old: [Entry; 16], old_count: usize, e: &[u8]) -> Listed
             number: 0,
             pid: 0,
             since: 0,
-        }; 16],
+        }; MOST_LISTED],
     };
     let whole = e.len() / 4;
     let mut k: usize = 0;
@@ -188,9 +189,9 @@ fn read_entries(t: u64, old: [Entry; 16], old_count: usize, e: &[u8]) -> Listed
 }
 
 // The list of a good PAT section that arrives at t; old is the list just replaced.
-pub fn read_list(t: u64, old: [Entry; 16], old_count: usize, s: &[u8]) -> Listed
-    requires { ⌜ «old_count» ≤ 16 ⌝ }
-    ensures { λ r. ⌜ (r ≡ listOf t (take «old_count» old) (now (s .entry))) × (r .count ≤ 16) ⌝ }
+pub fn read_list(t: u64, old: [Entry; MOST_LISTED], old_count: usize, s: &[u8]) -> Listed
+    requires { ⌜ «old_count» ≤ mostListed ⌝ }
+    ensures { λ r. ⌜ (r ≡ listOf t (take «old_count» old) (now (s .entry))) × (r .count ≤ mostListed) ⌝ }
 {
     if s.len() < 12 {
         return read_entries(t, old, old_count, &s[0..0]);
@@ -199,8 +200,8 @@ pub fn read_list(t: u64, old: [Entry; 16], old_count: usize, s: &[u8]) -> Listed
 }
 
 // The first place with a PID, or the length of the list where there is none.
-fn place_of(entries: [Entry; 16], count: usize, pid: u16) -> usize
-    requires { ⌜ count ≤ 16 ⌝ }
+fn place_of(entries: [Entry; MOST_LISTED], count: usize, pid: u16) -> usize
+    requires { ⌜ count ≤ mostListed ⌝ }
     ensures { λ r. ⌜ r ≡ placeOf pid (take count entries) ⌝ }
 {
     let mut i: usize = 0;
@@ -216,14 +217,14 @@ fn place_of(entries: [Entry; 16], count: usize, pid: u16) -> usize
 
 // The half-built length of the place k of the new list.
 fn moved_half(
-    old: [Entry; 16],
+    old: [Entry; MOST_LISTED],
     old_count: usize,
-    new: [Entry; 16],
+    new: [Entry; MOST_LISTED],
     new_count: usize,
-    half: [u16; 21],
+    half: [u16; ROOMS],
     k: usize,
 ) -> u16
-    requires { ⌜ («old_count» ≤ 16) × («new_count» ≤ 16) ⌝ }
+    requires { ⌜ («old_count» ≤ mostListed) × («new_count» ≤ mostListed) ⌝ }
     ensures { λ r. ⌜ r ≡ movedHalf (take «old_count» old) (take «new_count» new) half k ⌝ }
 {
     if new_count <= k {
@@ -237,19 +238,19 @@ fn moved_half(
     if old_count <= place {
         return 0;
     }
-    half[FIRST_ROOM + place]
+    half[FIXED + place]
 }
 
 // Whether nothing is half-built in the rooms of the list, in which sections are mostly of one packet. All lengths are
 // looked at: a loop without a way out is done many at a time.
 pub fn none_listed(half: &[u16]) -> bool
     requires { ⌜ length (now half) ≡ roomCount ⌝ }
-    ensures { λ r. ⌜ r ≡ noneHalf (part (now (half .entry)) 5 16) ⌝ }
+    ensures { λ r. ⌜ r ≡ noneHalf (part (now (half .entry)) fixedCount mostListed) ⌝ }
 {
     let mut none = true;
     let mut k: usize = 0;
-    while k < 16 {
-        none = none & (half[FIRST_ROOM + k] == 0);
+    while k < MOST_LISTED {
+        none = none & (half[FIXED + k] == 0);
         k += 1;
     }
     none
@@ -257,19 +258,19 @@ pub fn none_listed(half: &[u16]) -> bool
 
 // All half-built lengths under the new list.
 fn moved_halves(
-    old: [Entry; 16],
+    old: [Entry; MOST_LISTED],
     old_count: usize,
-    new: [Entry; 16],
+    new: [Entry; MOST_LISTED],
     new_count: usize,
-    half: [u16; 21],
-) -> [u16; 21]
-    requires { ⌜ («old_count» ≤ 16) × («new_count» ≤ 16) ⌝ }
+    half: [u16; ROOMS],
+) -> [u16; ROOMS]
+    requires { ⌜ («old_count» ≤ mostListed) × («new_count» ≤ mostListed) ⌝ }
     ensures { λ r. ⌜ r ≡ movedHalves (take «old_count» old) (take «new_count» new) half ⌝ }
 {
     let mut out = half;
     let mut k: usize = 0;
     while k < MOST_LISTED {
-        out[FIRST_ROOM + k] = moved_half(old, old_count, new, new_count, half, k);
+        out[FIXED + k] = moved_half(old, old_count, new, new_count, half, k);
         k += 1;
     }
     out
@@ -284,8 +285,8 @@ fn move_room(mem: &mut [u8], saved: &[u8], to: usize, from: usize, n: usize)
 }
 
 // Whether half-built bytes of the place k, if there are any, stand there already.
-fn keeps(old: [Entry; 16], old_count: usize, pid: u16, n: u16, k: usize) -> bool
-    requires { ⌜ «old_count» ≤ 16 ⌝ }
+fn keeps(old: [Entry; MOST_LISTED], old_count: usize, pid: u16, n: u16, k: usize) -> bool
+    requires { ⌜ «old_count» ≤ mostListed ⌝ }
     ensures { λ r. ⌜ (r ≡ true → 0 < n → placeOf pid (take «old_count» old) ≡ k) ⌝ }
 {
     if n == 0 {
@@ -296,19 +297,19 @@ fn keeps(old: [Entry; 16], old_count: usize, pid: u16, n: u16, k: usize) -> bool
 
 // Whether no half-built byte moves.
 fn stays(
-    old: [Entry; 16],
+    old: [Entry; MOST_LISTED],
     old_count: usize,
-    new: [Entry; 16],
+    new: [Entry; MOST_LISTED],
     new_count: usize,
-    half: [u16; 21],
+    half: [u16; ROOMS],
 ) -> bool
-    requires { ⌜ («old_count» ≤ 16) × («new_count» ≤ 16) ⌝ }
+    requires { ⌜ («old_count» ≤ mostListed) × («new_count» ≤ mostListed) ⌝ }
     ensures { λ r. ⌜ (r ≡ true → Stayed (take «old_count» old) (take «new_count» new) half «new_count») ⌝ }
 {
     let mut k: usize = 0;
     while k < new_count {
         let e = new[k];
-        if !keeps(old, old_count, e.pid, half[FIRST_ROOM + k], k) {
+        if !keeps(old, old_count, e.pid, half[FIXED + k], k) {
             return false;
         }
         k += 1;
@@ -320,35 +321,35 @@ fn stays(
 fn move_place(
     mem: &mut [u8],
     saved: &[u8],
-    old: [Entry; 16],
+    old: [Entry; MOST_LISTED],
     old_count: usize,
     pid: u16,
     n: u16,
     k: usize,
 )
-    requires { ⌜ (length (now mem) ≡ memorySize) × (length (now saved) ≡ memorySize) × («old_count» ≤ 16) × (k < 16) ⌝ }
-    requires { ⌜ (0 < n → (placeOf pid (take «old_count» old) < 16) × (n ≤ 1024)) ⌝ }
+    requires { ⌜ (length (now mem) ≡ memorySize) × (length (now saved) ≡ memorySize) × («old_count» ≤ mostListed) × (k < mostListed) ⌝ }
+    requires { ⌜ (0 < n → (placeOf pid (take «old_count» old) < mostListed) × (n ≤ 1024)) ⌝ }
     ensures { λ _. ⌜ now (mem .exit) ≡ sets (now (mem .entry)) (roomBase (roomOfPlace k)) (halfBuilt (now (saved .entry)) (roomOfPlace (placeOf pid (take «old_count» old))) n) ⌝ }
 {
     if n == 0 {
         return;
     }
     let place = place_of(old, old_count, pid);
-    let to = sections::room_base(FIRST_ROOM + k);
-    let from = sections::room_base(FIRST_ROOM + place);
+    let to = sections::room_base(FIXED + k);
+    let from = sections::room_base(FIXED + place);
     move_room(mem, saved, to, from, n as usize);
 }
 
 // The half-built bytes of each place, taken from where its PID stood.
 fn move_places(
-    mem: &mut [u8; 24576],
-    old: [Entry; 16],
+    mem: &mut [u8; MEMORY],
+    old: [Entry; MOST_LISTED],
     old_count: usize,
-    new: [Entry; 16],
+    new: [Entry; MOST_LISTED],
     new_count: usize,
-    half: [u16; 21],
+    half: [u16; ROOMS],
 )
-    requires { ⌜ (length (now mem) ≡ memorySize) × («old_count» ≤ 16) × («new_count» ≤ 16) ⌝ }
+    requires { ⌜ (length (now mem) ≡ memorySize) × («old_count» ≤ mostListed) × («new_count» ≤ mostListed) ⌝ }
     requires { ⌜ Placed (take «old_count» old) (take «new_count» new) half ⌝ }
     ensures { λ _. ⌜ now (mem .exit) ≡ movedPlaces (take «old_count» old) (take «new_count» new) half (now (mem .entry)) 0 16 (now (mem .entry)) ⌝ }
 {
@@ -356,7 +357,7 @@ fn move_places(
     let mut k: usize = 0;
     while k < new_count {
         let e = new[k];
-        move_place(mem, &saved, old, old_count, e.pid, half[FIRST_ROOM + k], k);
+        move_place(mem, &saved, old, old_count, e.pid, half[FIXED + k], k);
         k += 1;
     }
 }
@@ -364,14 +365,14 @@ fn move_places(
 // Half-built sections stay with their PIDs as a list is replaced: their bytes move, and their lengths are
 // handed back.
 pub fn move_sections(
-    mem: &mut [u8; 24576],
-    old: [Entry; 16],
+    mem: &mut [u8; MEMORY],
+    old: [Entry; MOST_LISTED],
     old_count: usize,
-    new: [Entry; 16],
+    new: [Entry; MOST_LISTED],
     new_count: usize,
-    half: [u16; 21],
-) -> [u16; 21]
-    requires { ⌜ (length (now mem) ≡ memorySize) × («old_count» ≤ 16) × («new_count» ≤ 16) ⌝ }
+    half: [u16; ROOMS],
+) -> [u16; ROOMS]
+    requires { ⌜ (length (now mem) ≡ memorySize) × («old_count» ≤ mostListed) × («new_count» ≤ mostListed) ⌝ }
     requires { ⌜ ((k : ℕ) → k < 16 → halfAt half (roomOfPlace k) ≤ 1024) ⌝ }
     ensures { λ r. ⌜ (r ≡ movedHalves (take «old_count» old) (take «new_count» new) half)
         × (now (mem .exit) ≡ movedBytes (take «old_count» old) (take «new_count» new) half (now (mem .entry))) ⌝ }

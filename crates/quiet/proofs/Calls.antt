@@ -11,7 +11,8 @@ use lib.Seq.{set-getD}
 use borrow.Author.Tests.{leb-true, eqb-true, ne-eqb, le-ltb, not-true}
 use Rattle.lists.proofs.Tests.{and-left, and-right}
 use Rattle.events.specs.Faults.{continuityError}
-use Rattle.watches.specs.Tables.{fixedTables}
+use Rattle.watches.specs.Tables.{patPid, nitPid, sdtPid, eitPid, tdtPid, fixedTables, fixedCount}
+use Rattle.watches.specs.Late.{tableRows, entryRows}
 use Rattle.header.specs.Header.{rightSync, errorBit, scrambledBits, pidOf, headerOf}
 use Rattle.continuity.specs.declared.Counted.{Counted}
 use Rattle.continuity.specs.Continuity.{knownByte, countedOf}
@@ -19,17 +20,17 @@ use Rattle.sections.specs.Rooms.{roomCount, noRoom}
 use Rattle.programmes.specs.Listing.{lowestPid, mostListed}
 use Rattle.programmes.specs.Places.{isListed}
 use Rattle.calls.specs.declared.State.{State}
-use Rattle.calls.specs.Cores.{Held, listed, fixedRoom, roomFor, droppedRoom, lateOf}
-use Rattle.calls.specs.Sync.{Synced, withSync, whileLost, inSync, syncedOf}
+use Rattle.calls.specs.Cores.{Held, listed, fixedRoom, roomFor, droppedRoom, boardOf, lateOf, withSync}
+use Rattle.calls.specs.Sync.{Synced, whileLost, inSync, syncedOf}
 use Rattle.calls.specs.Steps.{Step, also, packetEvents, counted, step1, step2, step4, step5}
-use Rattle.calls.specs.Sound.{timeSound, roomsSound, stateSound}
+use Rattle.calls.specs.Sound.{timeSound, stateSound}
 use Rattle.calls.specs.Calls.{heldOf, packetCall}
 use Rattle.calls.proofs.Accepted.{PacketAccepted, accepted-packet, packet-call-accepted, rooms-at, sound-whole}
 use Rattle.calls.proofs.Moves.{dropped-nowhere}
 use Rattle.checks.specs.Ladders.{Right}
-use Rattle.quiet.specs.Quiet.{tablesQuiet, entriesQuiet, unmarked, syncQuiet, latestQuiet, stateQuiet, headQuiet, idlePacket, byteQuiet, countQuiet, quietCall, quietByte}
+use Rattle.quiet.specs.Quiet.{rowsQuiet, restQuiet, entriesQuiet, unmarked, syncQuiet, latestQuiet, stateQuiet, headQuiet, idlePacket, byteQuiet, countQuiet, quietCall, quietByte}
 use Rattle.quiet.proofs.Turns.{passed}
-use Rattle.quiet.proofs.Parts.{tables-sound, tables-timely, entries-timely, entries-other, entries-sound}
+use Rattle.quiet.proofs.Parts.{rows-timely, rows-both, tables-sound, entries-rows, entries-other, entries-sound}
 
 -- A QUIET STATE, part by part
 pub record QuietState (s : State) (m : List ℕ) (t q : ℕ) : Type 0 where
@@ -38,16 +39,16 @@ pub record QuietState (s : State) (m : List ℕ) (t q : ℕ) : Type 0 where
   pub count : s .core .count ≤ mostListed
   pub latest : timeSound (s .latest) ≡ true
   pub order : s .latest ≤ t
-  pub rooms : roomsSound (s .core .half) m ≡ true
-  pub tables : tablesQuiet (s .latest) t fixedTables (s .core .since) ≡ true
+  pub rest : restQuiet (s .core) m ≡ true
+  pub tables : rowsQuiet (s .latest) t (tableRows fixedTables (s .core .since)) ≡ true
   pub entries : entriesQuiet (s .latest) t q unmarked (listed (s .core)) ≡ true
 
 pub state-parts : (s : State) (m : List ℕ) (t q : ℕ) → stateQuiet s m t q ≡ true → QuietState s m t q
 unfolding stateQuiet
 state-parts s m t q e =
     let d = entriesQuiet (s .latest) t q unmarked (listed (s .core)) in
-    let c = tablesQuiet (s .latest) t fixedTables (s .core .since) in
-    let b = roomsSound (s .core .half) m in
+    let c = rowsQuiet (s .latest) t (tableRows fixedTables (s .core .since)) in
+    let b = restQuiet (s .core) m in
     let a = latestQuiet (s .latest) t in
     let one = passed (syncQuiet (s .core)) (cond a (cond b (cond c d false) false) false) e in
     let two = passed a (cond b (cond c d false) false) (one .1) in
@@ -62,14 +63,14 @@ state-parts s m t q e =
       count = leb-true (s .core .count) mostListed (and-right (lost && run) (leb (s .core .count) mostListed) (one .0));
       latest = and-left (timeSound (s .latest)) (leb (s .latest) t) (two .0);
       order = leb-true (s .latest) t (and-right (timeSound (s .latest)) (leb (s .latest) t) (two .0));
-      rooms = three .0;
+      rest = three .0;
       tables = four .0;
       entries = four .1;
     }
 
 module _ (s : State) (m : List ℕ) (t q : ℕ) (h : QuietState s m t q) where
   -- it is sound
-  pub quiet-sound : length (s .core .since) ≤ 5 → stateSound s m ≡ true
+  pub quiet-sound : length (s .core .since) ≤ fixedCount → stateSound s m ≡ true
   quiet-sound l =
       sound-whole s m
       (record {
@@ -78,13 +79,16 @@ module _ (s : State) (m : List ℕ) (t q : ℕ) (h : QuietState s m t q) where
         count = h .count;
         entries = entries-sound (s .latest) t q unmarked (listed (s .core)) refl (h .entries);
         run = omega (arith, h .run);
-        rooms = λ r b. rooms-at (s .core .half) m 0 roomCount (h .rooms) r (omega arith) b;
+        rooms = λ r b. rooms-at (s .core .half) m 0 roomCount (h .rest) r (omega arith) b;
       })
 
   -- nothing is late
   pub quiet-timely : lateOf (s .latest) t (s .core) ≡ []
   unfolding lateOf
-  quiet-timely = rw (tables-timely (s .latest) t fixedTables (s .core .since) (h .tables), entries-timely (s .latest) t q unmarked (listed (s .core)) (h .entries))
+  quiet-timely =
+      let tables = tableRows fixedTables (s .core .since) in
+      let entries = entryRows (listed (s .core)) in
+      rows-timely (s .latest) t (boardOf (s .core)) (rows-both (s .latest) t tables entries (h .tables) (entries-rows (s .latest) t q unmarked (listed (s .core)) (h .entries)))
 
   -- no sections of the PID are built
   quiet-unlisted : isListed q (listed (s .core)) ≡ false
@@ -94,11 +98,11 @@ module _ (s : State) (m : List ℕ) (t q : ℕ) (h : QuietState s m t q) where
   unfolding roomFor fixedRoom
   quiet-room l =
       rw (
-        ne-eqb 0x0000 q (λ z. omega arith),
-        ne-eqb 0x0010 q (λ z. omega arith),
-        ne-eqb 0x0011 q (λ z. omega arith),
-        ne-eqb 0x0012 q (λ z. omega arith),
-        ne-eqb 0x0014 q (λ z. omega arith),
+        ne-eqb patPid q (λ z. omega arith),
+        ne-eqb nitPid q (λ z. omega arith),
+        ne-eqb sdtPid q (λ z. omega arith),
+        ne-eqb eitPid q (λ z. omega arith),
+        ne-eqb tdtPid q (λ z. omega arith),
         quiet-unlisted,
       )
 
@@ -208,7 +212,7 @@ module _ (s : State) (m : List ℕ) (t : ℕ) (x counters : List ℕ) (room : �
       go false z = quiet-step-4 l (counted x counters) (not-true (counted x counters .event) z)
 
   -- THE CALL
-  quiet-accepted : length (s .core .since) ≤ 5 → PacketAccepted s t x counters m room
+  quiet-accepted : length (s .core .since) ≤ fixedCount → PacketAccepted s t x counters m room
   quiet-accepted l =
       record {
         packet = right .packet;
@@ -220,6 +224,6 @@ module _ (s : State) (m : List ℕ) (t : ℕ) (x counters : List ℕ) (room : �
         order = quietState .order;
       }
 
-  pub quiet-call : length (s .core .since) ≤ 5 → length (s .core .half) ≤ roomCount → packetCall s t x counters m room
+  pub quiet-call : length (s .core .since) ≤ fixedCount → length (s .core .half) ≤ roomCount → packetCall s t x counters m room
       ≡ record { refusal = 0; state = record { latest = t; core = s .core }; counters = countedTable x counters; memory = m; events = [] }
   quiet-call l g = calm-call s m t (pidOf x) quietState x counters room (quietPacket .sync) (quiet-accepted l) quietStep (quiet-step-2 g) refl

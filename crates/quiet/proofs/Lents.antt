@@ -6,10 +6,12 @@ use Prim.Native.Nat.{ℕ, _≤_}
 use native.Mathlib.Omega.{arith}
 use lib.ListN.{length, getD, set}
 use Rattle.lists.proofs.Places.{part-length}
+use Rattle.watches.specs.Tables.{fixedCount}
 use Rattle.header.specs.Header.{pidOf}
+use Rattle.sections.specs.Rooms.{roomCount}
 use Rattle.calls.specs.Calls.{Result, answerOf, packetCall}
 use Rattle.arrays.specs.declared.Reply.{Reply}
-use Rattle.arrays.specs.Lent.{gapsIn, halvesIn, stateIn, Sized}
+use Rattle.arrays.specs.Lent.{gapsIn, halvesIn, stateIn, Sized, latestAt, gapsAt, halvesAt, lostAt, runAt, countAt}
 use Rattle.arrays.specs.Replies.{replyOf, timesAfter, wordsAfter}
 use Rattle.arrays.proofs.Same.{times-same, words-same, lost-same, run-same, count-same}
 use Rattle.checks.specs.Ladders.{Right}
@@ -26,20 +28,20 @@ module _ (times words : List ℕ) (sized : Sized times words) (t : ℕ) (x count
 
   pub quiet-done : quietCall (stateIn times words) m t x (getD counters (pidOf x) 0) ≡ true
       → (quietReply ≡ replyOf (answerOf called))
-      × (set times 0 t ≡ timesAfter (answerOf called) times)
+      × (set times latestAt t ≡ timesAfter (answerOf called) times)
       × (words ≡ wordsAfter (answerOf called) words)
       × (countedTable x counters ≡ called .counters)
       × (m ≡ called .memory)
       × (called .events ≡ [])
   unfolding stateIn timesAfter wordsAfter
   quiet-done e =
-      let five : length (gapsIn times) ≤ 5 = omega (arith, part-length times 1 5 (omega (arith, sized .long))) in
-      let rooms : length (halvesIn words) ≤ 21 = omega (arith, part-length words 32 21 (omega (arith, sized .wide))) in
+      let five : length (gapsIn times) ≤ fixedCount = omega (arith, part-length times gapsAt fixedCount (omega (arith, sized .long))) in
+      let rooms : length (halvesIn words) ≤ roomCount = omega (arith, part-length words halvesAt roomCount (omega (arith, sized .wide))) in
       let call = sym (quiet-call (stateIn times words) m t x counters room right e five rooms) in
       let state = state-parts (stateIn times words) m t (pidOf x) (passed (countQuiet x (getD counters (pidOf x) 0)) (stateQuiet (stateIn times words) m t (pidOf x)) e .1) in
-      let lost = lost-same (getD words 53 0) (state .insync) in
-      let run = run-same (getD words 54 0) (omega (arith, state .run)) in
-      let count = count-same (getD words 55 0) (state .count) in (
+      let lost = lost-same (getD words lostAt 0) (state .insync) in
+      let run = run-same (getD words runAt 0) (omega (arith, state .run)) in
+      let count = count-same (getD words countAt 0) (state .count) in (
         ap (λ (r : Result). replyOf (answerOf r)) call,
         sym (times-same times words t (sized .long)) ∙ ap (λ (r : Result). timesAfter (answerOf r) times) call,
         sym (words-same times words t (sized .wide) lost run count) ∙ ap (λ (r : Result). wordsAfter (answerOf r) words) call,

@@ -1,49 +1,65 @@
 -- What a quiet call's tests say: of the watches, of the list, of half-built sections. Assumes nothing.
 use mathlib.Core.Path.{_≡_, refl, sym, ap, _∙_}
 use mathlib.Core.Bool.{Bool, true, false, cond, not, _&&_, true≢false}
-use mathlib.Core.List.{List, [], _∷_}
-use Prim.Native.Nat.{ℕ, zero, suc, _+_, _%_, _≤_, _<_}
+use mathlib.Core.List.{List, [], _∷_, _++_, map}
+use Prim.Native.Nat.{ℕ, zero, suc, _%_, _≤_, _<_}
 use native.Mathlib.Nat.{le-of-suc-le-suc, not-suc-le-zero}
 use native.Mathlib.Omega.{arith}
-use lib.Dec.{leb, ltb, eqb}
+use lib.Dec.{leb, eqb}
 use lib.ListN.{length, getD, set, length-set, List·getD-eq-default}
 use lib.Seq.{getD-set-same, getD-set-other}
 use borrow.Author.Tests.{leb-true, eqb-false, not-true}
 use Rattle.lists.proofs.Tests.{and-left, and-right}
+use Rattle.lateness.specs.Gaps.{due}
+use Rattle.events.specs.Faults.{late}
+use Rattle.events.specs.Events.{eventAt}
 use Rattle.watches.specs.declared.Entry.{Entry}
-use Rattle.watches.specs.Tables.{Table, pmtTable, noEntry, latestTime}
-use Rattle.watches.specs.Late.{tablesLate, entriesLate}
+use Rattle.watches.specs.declared.Table.{Table}
+use Rattle.watches.specs.Tables.{noEntry, latestTime}
+use Rattle.watches.specs.Late.{Row, rowLate, rowsLate, tableRow, entryRow, tableRows, entryRows}
 use Rattle.programmes.specs.Listing.{lowestPid}
 use Rattle.programmes.specs.Places.{placeOf}
 use Rattle.calls.specs.Sound.{greatestPid, timeSound}
 use Rattle.calls.proofs.Accepted.{SoundEntry, SoundList}
-use Rattle.quiet.specs.Quiet.{gapQuiet, tablesQuiet, entryQuiet, markOf, entriesQuiet}
+use Rattle.quiet.specs.Quiet.{none, rowQuiet, rowsQuiet, entryQuiet, markOf, entriesQuiet}
 use Rattle.quiet.proofs.Turns.{passed}
 
--- A QUIET GAP is sound and gives no event
-module _ (limit p t s : ℕ) (e : gapQuiet limit p t s ≡ true) where
-  gap-sound : s ≤ latestTime
-  gap-sound = leb-true s latestTime (and-left (timeSound s) (not (leb p (s + limit) && ltb (s + limit) t)) e)
+-- A QUIET WATCH is sound and gives no event
+none-nil : (xs : List ℕ) → none xs ≡ true → xs ≡ []
+none-nil [] e = refl
+none-nil (x ∷ xs) e = absurd (true≢false (sym e))
 
-  gap-timely : (leb p (s + limit) && ltb (s + limit) t) ≡ false
-  gap-timely = not-true (leb p (s + limit) && ltb (s + limit) t) (and-right (timeSound s) (not (leb p (s + limit) && ltb (s + limit) t)) e)
+module _ (p t : ℕ) (w : Row) (e : rowQuiet p t w ≡ true) where
+  row-sound : w .since ≤ latestTime
+  row-sound = leb-true (w .since) latestTime (and-left (timeSound (w .since)) (none (due (w .limits) (w .since) p t)) e)
+
+  row-timely : rowLate p t w ≡ []
+  row-timely =
+      ap (map (λ x. eventAt x (w .fault) late (w .id))) (none-nil (due (w .limits) (w .since) p t) (and-right (timeSound (w .since)) (none (due (w .limits) (w .since) p t)) e))
+
+-- WATCHES one after the other
+pub rows-timely : (p t : ℕ) (ws : List Row) → rowsQuiet p t ws ≡ true → rowsLate p t ws ≡ []
+unfolding rowsQuiet rowsLate
+rows-timely p t [] e = refl
+rows-timely p t (w ∷ ws) e =
+    let a = passed (rowQuiet p t w) (rowsQuiet p t ws) e in
+    rw (row-timely p t w (a .0)) (rows-timely p t ws (a .1))
+
+pub rows-both : (p t : ℕ) (ws vs : List Row) → rowsQuiet p t ws ≡ true → rowsQuiet p t vs ≡ true → rowsQuiet p t (ws ++ vs) ≡ true
+unfolding rowsQuiet
+rows-both p t [] vs e f = f
+rows-both p t (w ∷ ws) vs e f =
+    let a = passed (rowQuiet p t w) (rowsQuiet p t ws) e in
+    rw (a .0) (rows-both p t ws vs (a .1) f)
 
 -- THE FIXED TABLES
-pub tables-sound : (p t : ℕ) (rs : List Table) (ss : List ℕ) → length ss ≤ length rs → tablesQuiet p t rs ss ≡ true → (k : ℕ) → getD ss k 0 ≤ latestTime
-unfolding tablesQuiet
+pub tables-sound : (p t : ℕ) (rs : List Table) (ss : List ℕ) → length ss ≤ length rs → rowsQuiet p t (tableRows rs ss) ≡ true → (k : ℕ) → getD ss k 0 ≤ latestTime
+unfolding rowsQuiet tableRows
 tables-sound p t rs [] h e k = omega (arith, List·getD-eq-default {A = ℕ} [] 0 {n = k} (omega arith))
 tables-sound p t [] (s ∷ ss) h e k = absurd (not-suc-le-zero h)
-tables-sound p t (r ∷ rs) (s ∷ ss) h e zero = gap-sound (r .limit) p t s (passed (gapQuiet (r .limit) p t s) (tablesQuiet p t rs ss) e .0)
+tables-sound p t (r ∷ rs) (s ∷ ss) h e zero = row-sound p t (tableRow r s) (passed (rowQuiet p t (tableRow r s)) (rowsQuiet p t (tableRows rs ss)) e .0)
 tables-sound p t (r ∷ rs) (s ∷ ss) h e (suc k) =
-    tables-sound p t rs ss (le-of-suc-le-suc h) (passed (gapQuiet (r .limit) p t s) (tablesQuiet p t rs ss) e .1) k
-
-pub tables-timely : (p t : ℕ) (rs : List Table) (ss : List ℕ) → tablesQuiet p t rs ss ≡ true → tablesLate p t rs ss ≡ []
-unfolding tablesQuiet tablesLate
-tables-timely p t [] ss e = refl
-tables-timely p t (r ∷ rs) [] e = refl
-tables-timely p t (r ∷ rs) (s ∷ ss) e =
-    let a = passed (gapQuiet (r .limit) p t s) (tablesQuiet p t rs ss) e in
-    rw (gap-timely (r .limit) p t s (a .0)) (tables-timely p t rs ss (a .1))
+    tables-sound p t rs ss (le-of-suc-le-suc h) (passed (rowQuiet p t (tableRow r s)) (rowsQuiet p t (tableRows rs ss)) e .1) k
 
 -- A QUIET ENTRY
 module _ (p t q : ℕ) (x : Entry) (h : entryQuiet p t q x ≡ true) where
@@ -53,7 +69,7 @@ module _ (p t q : ℕ) (x : Entry) (h : entryQuiet p t q x ≡ true) where
       let b = leb lowestPid (x .pid) in
       let c = leb (x .pid) greatestPid in
       let d = not (eqb (x .pid) q) in
-      let g = gapQuiet (pmtTable .limit) p t (x .since) in
+      let g = rowQuiet p t (entryRow x) in
       let abcd = and-left (a && b && c && d) g h in
       let abc = and-left (a && b && c) d abcd in
       let ab = and-left (a && b) c abc in
@@ -61,19 +77,19 @@ module _ (p t q : ℕ) (x : Entry) (h : entryQuiet p t q x ≡ true) where
         number = eqb-false (x .number) 0 (not-true (eqb (x .number) 0) (and-left a b ab));
         low = leb-true lowestPid (x .pid) (and-right a b ab);
         high = leb-true (x .pid) greatestPid (and-right (a && b) c abc);
-        since = gap-sound (pmtTable .limit) p t (x .since) (and-right (a && b && c && d) g h);
+        since = row-sound p t (entryRow x) (and-right (a && b && c && d) g h);
       }
 
   pub entry-other : eqb (x .pid) q ≡ false
   entry-other =
       let abc = not (eqb (x .number) 0) && leb lowestPid (x .pid) && leb (x .pid) greatestPid in
       let d = not (eqb (x .pid) q) in
-      not-true (eqb (x .pid) q) (and-right abc d (and-left (abc && d) (gapQuiet (pmtTable .limit) p t (x .since)) h))
+      not-true (eqb (x .pid) q) (and-right abc d (and-left (abc && d) (rowQuiet p t (entryRow x)) h))
 
-  pub entry-timely : (leb p (x .since + pmtTable .limit) && ltb (x .since + pmtTable .limit) t) ≡ false
-  entry-timely =
+  entry-row : rowQuiet p t (entryRow x) ≡ true
+  entry-row =
       let abcd = not (eqb (x .number) 0) && leb lowestPid (x .pid) && leb (x .pid) greatestPid && not (eqb (x .pid) q) in
-      gap-timely (pmtTable .limit) p t (x .since) (and-right abcd (gapQuiet (pmtTable .limit) p t (x .since)) h)
+      and-right abcd (rowQuiet p t (entryRow x)) h
 
 -- QUIET ENTRIES
 module _ (p t q : ℕ) where
@@ -93,11 +109,11 @@ module _ (p t q : ℕ) where
       go true z = absurd (true≢false (sym z))
       go false z = (refl, z)
 
-  pub entries-timely : (marks : List Bool) (es : List Entry) → entriesQuiet p t q marks es ≡ true → entriesLate p t es ≡ []
-  unfolding entriesLate
-  entries-timely marks [] e = refl
-  entries-timely marks (x ∷ es) e =
-      rw (entry-timely p t q x (head-quiet marks x es e)) (entries-timely (set marks (markOf x) true) es (rest-quiet marks x es e .1))
+  pub entries-rows : (marks : List Bool) (es : List Entry) → entriesQuiet p t q marks es ≡ true → rowsQuiet p t (entryRows es) ≡ true
+  unfolding rowsQuiet
+  entries-rows marks [] e = refl
+  entries-rows marks (x ∷ es) e =
+      rw (entry-row p t q x (head-quiet marks x es e)) (entries-rows (set marks (markOf x) true) es (rest-quiet marks x es e .1))
 
   pub entries-other : (marks : List Bool) (es : List Entry) → entriesQuiet p t q marks es ≡ true → placeOf q es ≡ length es
   unfolding placeOf

@@ -4,14 +4,16 @@
 -- `proofs/Calls.antt`; a call that is not quiet is made as any other. p is the latest accepted time, t the call's time, q the packet's PID, b its
 -- byte in the counter table, m is section memory.
 --
---   gapQuiet limit p t s  == a gap start s not above 2^62, whose stamp does not fall due at t
---   tablesQuiet p t rs ss == those of fixed tables
---   entryQuiet p t q e    == a listed entry as refusal 5 has it, its gap quiet, on another PID than q
+--   none xs               == it is the empty list
+--   gapQuiet ls p t s     == a gap start s not above 2^62 of a watch with the limits ls, of which none falls due at t
+--   rowQuiet, rowsQuiet   == that of a watch; of watches one after the other
+--   entryQuiet p t q e    == a listed entry as refusal 5 has it, its watch quiet, on another PID than q
 --   markOf e              == programme numbers are told apart by their remainder of 64: a call is not quiet where two have the same
 --   entriesQuiet p t q marks es == listed entries, none with a remainder that is marked or that of another
 --   syncQuiet c           == in sync, with no wrong byte before, at most sixteen programmes listed
 --   latestQuiet p t       == the latest time not above 2^62, the call's not below it
---   stateQuiet s m t q    == the state is quiet for a packet of the PID q; half-built sections are as refusal 5 has them
+--   restQuiet c m         == the rest of the state: half-built sections are as refusal 5 has them
+--   stateQuiet s m t q    == the state is quiet for a packet of the PID q
 --   headQuiet x           == a right sync byte, no error bit, a PID of 0x0020 or above
 --   idlePacket x          == step 3: a null packet, or control 00
 --   byteQuiet x b         == a table byte that these calls leave, and no event of step 4
@@ -19,13 +21,15 @@
 --   quietCall s m t x b   == a call that refusals 1 to 4 pass is quiet
 --   quietByte x b         == the byte after step 3, or step 4
 --   glanceOf quiet x b    == what is told of a call: whether it is quiet, and then the byte that it leaves
-use Prim.Native.Nat.{ℕ, _+_, _%_}
+use Prim.Native.Nat.{ℕ, _%_}
 use mathlib.Core.Bool.{Bool, true, false, cond, not, _&&_, _||_}
 use mathlib.Core.List.{List, [], _∷_}
-use lib.Dec.{leb, ltb, eqb}
+use lib.Dec.{leb, eqb}
 use lib.ListN.{getD, set, replicate}
+use Rattle.lateness.specs.Gaps.{due}
 use Rattle.watches.specs.declared.Entry.{Entry}
-use Rattle.watches.specs.Tables.{Table, fixedTables, pmtTable}
+use Rattle.watches.specs.Tables.{fixedTables}
+use Rattle.watches.specs.Late.{Row, tableRows, entryRow}
 use Rattle.header.specs.Header.{rightSync, errorBit, controlOf, pidOf, headerOf}
 use Rattle.continuity.specs.Continuity.{knownByte, countedOf}
 use Rattle.programmes.specs.Listing.{lowestPid, mostListed, nullPid}
@@ -36,13 +40,19 @@ use Rattle.calls.specs.Sound.{greatestPid, timeSound, roomsSound}
 use Rattle.quiet.specs.declared.Glance.{Glance}
 
 -- WATCHES
-abbrev pub gapQuiet : ℕ → ℕ → ℕ → ℕ → Bool
-gapQuiet limit p t s = timeSound s && not (leb p (s + limit) && ltb (s + limit) t)
+abbrev pub none : List ℕ → Bool
+none [] = true
+none (x ∷ xs) = false
 
-unfoldable pub tablesQuiet : ℕ → ℕ → List Table → List ℕ → Bool
-tablesQuiet p t [] ss = true
-tablesQuiet p t (r ∷ rs) [] = true
-tablesQuiet p t (r ∷ rs) (s ∷ ss) = cond (gapQuiet (r .limit) p t s) (tablesQuiet p t rs ss) false
+abbrev pub gapQuiet : List ℕ → ℕ → ℕ → ℕ → Bool
+gapQuiet ls p t s = timeSound s && none (due ls s p t)
+
+abbrev pub rowQuiet : ℕ → ℕ → Row → Bool
+rowQuiet p t w = gapQuiet (w .limits) p t (w .since)
+
+unfoldable pub rowsQuiet : ℕ → ℕ → List Row → Bool
+rowsQuiet p t [] = true
+rowsQuiet p t (w ∷ ws) = cond (rowQuiet p t w) (rowsQuiet p t ws) false
 
 abbrev pub entryQuiet : ℕ → ℕ → ℕ → Entry → Bool
 entryQuiet p t q e =
@@ -50,7 +60,7 @@ entryQuiet p t q e =
     && leb lowestPid (e .pid)
     && leb (e .pid) greatestPid
     && not (eqb (e .pid) q)
-    && gapQuiet (pmtTable .limit) p t (e .since)
+    && rowQuiet p t (entryRow e)
 
 abbrev pub markOf : Entry → ℕ
 markOf e = e .number % 64
@@ -70,12 +80,15 @@ syncQuiet c = not (c .lost) && eqb (c .run) 0 && leb (c .count) mostListed
 abbrev pub latestQuiet : ℕ → ℕ → Bool
 latestQuiet p t = timeSound p && leb p t
 
+abbrev pub restQuiet : Core → List ℕ → Bool
+restQuiet c m = roomsSound (c .half) m
+
 unfoldable pub stateQuiet : State → List ℕ → ℕ → ℕ → Bool
 stateQuiet s m t q =
     cond (syncQuiet (s .core))
     (cond (latestQuiet (s .latest) t)
-    (cond (roomsSound (s .core .half) m)
-    (cond (tablesQuiet (s .latest) t fixedTables (s .core .since)) (entriesQuiet (s .latest) t q unmarked (listed (s .core)))
+    (cond (restQuiet (s .core) m)
+    (cond (rowsQuiet (s .latest) t (tableRows fixedTables (s .core .since))) (entriesQuiet (s .latest) t q unmarked (listed (s .core)))
     false)
     false)
     false)

@@ -3,33 +3,36 @@
 // same of a state by value is in `value`.
 mod value;
 
+use arrays::LATEST;
+use calls::GREATEST_PID;
 use header::Header;
+use header::SYNC_BYTE;
+use programmes::LOWEST_PID;
+use programmes::MOST_LISTED;
+use programmes::NULL_PID;
 pub use value::quiet_value;
+use watches::EIT_LIMIT;
 use watches::Entry;
+use watches::LATEST_TIME;
+use watches::NIT_LIMIT;
+use watches::PAT_LIMIT;
+use watches::PMT_LIMIT;
+use watches::SDT_LIMIT;
+use watches::TDT_LIMIT;
 ghost use mathlib.Core.Path.{_≡_};
 ghost use Prim.Native.Nat.{_≤_};
 ghost use mathlib.Core.Bool.{false, not, _&&_, _||_};
+ghost use mathlib.Core.List.{[], _∷_};
 ghost use lib.Dec.{eqb, leb};
 ghost use lib.ListN.{length, take};
-ghost use Rattle.watches.specs.Tables.{fixedTables, latestTime};
-ghost use Rattle.header.specs.Header.{packetSize, headerOf};
+ghost use Rattle.watches.specs.Tables.{fixedTables, latestTime, fixedCount};
+ghost use Rattle.watches.specs.Late.{tableRows};
+ghost use Rattle.header.specs.Header.{packetSize, syncByte, headerOf};
 ghost use Rattle.sections.specs.Rooms.{memorySize, roomCount};
-ghost use Rattle.programmes.specs.Listing.{lowestPid, nullPid};
+ghost use Rattle.programmes.specs.Listing.{lowestPid, nullPid, mostListed};
 ghost use Rattle.calls.specs.Sound.{roomsSound};
-ghost use Rattle.arrays.specs.Lent.{timeCount, wordCount, entriesIn, stateIn};
-ghost use Rattle.quiet.specs.Quiet.{gapQuiet, tablesQuiet, entryQuiet, entriesQuiet, unmarked, latestQuiet, stateQuiet, countQuiet, quietCall, glanceOf};
-
-const LATEST_TIME: u64 = 4_611_686_018_427_387_904;
-
-const LOWEST_PID: u16 = 0x0020;
-
-const GREATEST_PID: u16 = 0x1FFE;
-
-const NULL_PID: u16 = 0x1FFF;
-
-const SYNC_BYTE: u8 = 0x47;
-
-const PMT_LIMIT: u64 = 13_500_000;
+ghost use Rattle.arrays.specs.Lent.{entriesIn, stateIn, coreTimeCount, coreWordCount};
+ghost use Rattle.quiet.specs.Quiet.{gapQuiet, rowsQuiet, entryQuiet, entriesQuiet, unmarked, latestQuiet, stateQuiet, countQuiet, quietCall, glanceOf};
 
 // Whether a call is quiet, and then the byte of its PID in the counter table after steps 3 and 4.
 pub struct Glance {
@@ -37,10 +40,10 @@ pub struct Glance {
     pub byte: u8,
 }
 
-// Whether a gap start is not above 2^62 and its stamp does not fall due as time goes from p to t.
+// Whether a gap start is not above 2^62 and its stamp does not fall due as time goes from p to t: of a watch with one limit.
 fn gap_quiet(since: u64, limit: u64, p: u64, t: u64) -> bool
     requires { ⌜ limit ≤ latestTime ⌝ }
-    ensures { λ r. ⌜ r ≡ gapQuiet limit p t since ⌝ }
+    ensures { λ r. ⌜ r ≡ gapQuiet (limit ∷ []) p t since ⌝ }
 {
     if LATEST_TIME < since {
         return false;
@@ -49,24 +52,24 @@ fn gap_quiet(since: u64, limit: u64, p: u64, t: u64) -> bool
     !((p <= stamp) & (stamp < t))
 }
 
-// Whether those of the five fixed tables are quiet, down the table.
+// Whether those of the fixed tables are quiet, down the table.
 fn tables_quiet(since: &[u64], p: u64, t: u64) -> bool
-    requires { ⌜ length (now since) ≡ 5 ⌝ }
-    ensures { λ r. ⌜ r ≡ tablesQuiet p t fixedTables (now (since .entry)) ⌝ }
+    requires { ⌜ length (now since) ≡ fixedCount ⌝ }
+    ensures { λ r. ⌜ r ≡ rowsQuiet p t (tableRows fixedTables (now (since .entry))) ⌝ }
 {
-    if !gap_quiet(since[0], 13_500_000, p, t) {
+    if !gap_quiet(since[0], PAT_LIMIT, p, t) {
         return false;
     }
-    if !gap_quiet(since[1], 270_000_000, p, t) {
+    if !gap_quiet(since[1], NIT_LIMIT, p, t) {
         return false;
     }
-    if !gap_quiet(since[2], 54_000_000, p, t) {
+    if !gap_quiet(since[2], SDT_LIMIT, p, t) {
         return false;
     }
-    if !gap_quiet(since[3], 54_000_000, p, t) {
+    if !gap_quiet(since[3], EIT_LIMIT, p, t) {
         return false;
     }
-    gap_quiet(since[4], 810_000_000, p, t)
+    gap_quiet(since[4], TDT_LIMIT, p, t)
 }
 
 // Whether a listed entry is one that refusal 5 passes, quiet, and on another PID than q.
@@ -82,7 +85,7 @@ fn entry_quiet(e: Entry, p: u64, t: u64, q: u16) -> bool
 
 // Whether the listed entries are, with no two numbers of the same remainder.
 fn entries_quiet(times: &[u64], words: &[u16], count: usize, p: u64, t: u64, q: u16) -> bool
-    requires { ⌜ (length (now times) ≡ timeCount) × (length (now words) ≡ wordCount) × (count ≤ 16) ⌝ }
+    requires { ⌜ (coreTimeCount ≤ length (now times)) × (coreWordCount ≤ length (now words)) × (count ≤ mostListed) ⌝ }
     ensures { λ r. ⌜ r ≡ entriesQuiet p t q unmarked (take count (entriesIn (now (times .entry)) (now (words .entry)))) ⌝ }
 {
     let mut marks = [false; 64];
@@ -104,9 +107,9 @@ fn entries_quiet(times: &[u64], words: &[u16], count: usize, p: u64, t: u64, q: 
 
 // Whether sync is not lost, with no wrong byte before, and the list within bounds.
 fn sync_quiet(lost: bool, run: u8, count: usize) -> bool
-    ensures { λ r. ⌜ r ≡ (not lost && eqb run 0 && leb count 16) ⌝ }
+    ensures { λ r. ⌜ r ≡ (not lost && eqb run 0 && leb count mostListed) ⌝ }
 {
-    !lost & (run == 0) & (count <= 16)
+    !lost & (run == 0) & (count <= MOST_LISTED)
 }
 
 // Whether the latest time is not above 2^62, and the call's not below it.
@@ -116,8 +119,8 @@ fn latest_quiet(p: u64, t: u64) -> bool
     (p <= LATEST_TIME) & (p <= t)
 }
 
-// Whether half-built sections are as refusal 5 has them. Mostly there are none, and no call is made.
-fn rooms_quiet(half: &[u16], memory: &[u8]) -> bool
+// The rest of the state: half-built sections as refusal 5 has them. Mostly there are none, and no call is made.
+fn rest_quiet(half: &[u16], memory: &[u8]) -> bool
     requires { ⌜ (length (now half) ≡ roomCount) × (length (now memory) ≡ memorySize) ⌝ }
     ensures { λ r. ⌜ r ≡ roomsSound (now (half .entry)) (now (memory .entry)) ⌝ }
 {
@@ -129,18 +132,18 @@ fn rooms_quiet(half: &[u16], memory: &[u8]) -> bool
 
 // Whether the state is quiet for a packet of the PID q.
 fn state_quiet(times: &[u64], words: &[u16], memory: &[u8], t: u64, q: u16) -> bool
-    requires { ⌜ (length (now times) ≡ timeCount) × (length (now words) ≡ wordCount) × (length (now memory) ≡ memorySize) ⌝ }
+    requires { ⌜ (coreTimeCount ≤ length (now times)) × (coreWordCount ≤ length (now words)) × (length (now memory) ≡ memorySize) ⌝ }
     ensures { λ r. ⌜ r ≡ stateQuiet (stateIn (now (times .entry)) (now (words .entry))) (now (memory .entry)) t q ⌝ }
 {
     let count = arrays::count_in(words);
     if !sync_quiet(arrays::sync_lost(words), arrays::sync_run(words), count) {
         return false;
     }
-    let p = times[0];
+    let p = times[LATEST];
     if !latest_quiet(p, t) {
         return false;
     }
-    if !rooms_quiet(arrays::halves_of(words), memory) {
+    if !rest_quiet(arrays::halves_of(words), memory) {
         return false;
     }
     if !tables_quiet(arrays::gaps_of(times), p, t) {
@@ -151,7 +154,7 @@ fn state_quiet(times: &[u64], words: &[u16], memory: &[u8], t: u64, q: u16) -> b
 
 // Whether the packet is in sync and without a transport error, on a PID of elementary streams or the null PID.
 fn head_quiet(sync: u8, h: Header) -> bool
-    ensures { λ r. ⌜ r ≡ (eqb sync 0x47 && not (h .error) && leb lowestPid (h .pid)) ⌝ }
+    ensures { λ r. ⌜ r ≡ (eqb sync syncByte && not (h .error) && leb lowestPid (h .pid)) ⌝ }
 {
     (sync == SYNC_BYTE) & !h.error & (LOWEST_PID <= h.pid)
 }
@@ -211,7 +214,7 @@ pub fn quiet_packet(
     h: Header,
     byte: u8,
 ) -> Glance
-    requires { ⌜ (length (now times) ≡ timeCount) × (length (now words) ≡ wordCount) × (length (now memory) ≡ memorySize) ⌝ }
+    requires { ⌜ (coreTimeCount ≤ length (now times)) × (coreWordCount ≤ length (now words)) × (length (now memory) ≡ memorySize) ⌝ }
     requires { ⌜ (length (now packet) ≡ packetSize) × (h ≡ headerOf (now packet)) ⌝ }
     ensures { λ g. ⌜ g ≡ glanceOf (quietCall (stateIn (now (times .entry)) (now (words .entry))) (now (memory .entry)) time (now (packet .entry)) byte) (now (packet .entry)) byte ⌝ }
 {

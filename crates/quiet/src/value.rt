@@ -2,18 +2,20 @@
 use crate::Glance;
 use calls::State;
 use header::Header;
+use programmes::MOST_LISTED;
 use watches::Entry;
 ghost use mathlib.Core.Path.{_≡_};
 ghost use Prim.Native.Nat.{_≤_};
 ghost use lib.ListN.{length, take};
 ghost use Rattle.header.specs.Header.{packetSize, headerOf};
 ghost use Rattle.sections.specs.Rooms.{memorySize};
+ghost use Rattle.programmes.specs.Listing.{mostListed};
 ghost use Rattle.arrays.specs.Lent.{Typed};
 ghost use Rattle.quiet.specs.Quiet.{entriesQuiet, unmarked, stateQuiet, quietCall, glanceOf};
 
 // Whether the listed entries are quiet, with no two numbers of the same remainder.
-fn entries_quiet(entries: [Entry; 16], count: usize, p: u64, t: u64, q: u16) -> bool
-    requires { ⌜ count ≤ 16 ⌝ }
+fn entries_quiet(entries: [Entry; MOST_LISTED], count: usize, p: u64, t: u64, q: u16) -> bool
+    requires { ⌜ count ≤ mostListed ⌝ }
     ensures { λ r. ⌜ r ≡ entriesQuiet p t q unmarked (take count entries) ⌝ }
 {
     let mut marks = [false; 64];
@@ -48,7 +50,7 @@ fn state_quiet(state: State, memory: &[u8], t: u64, q: u16) -> bool
     }
     let half = state.core.half;
     let since = state.core.since;
-    if !crate::rooms_quiet(&half, memory) {
+    if !crate::rest_quiet(&half, memory) {
         return false;
     }
     if !crate::tables_quiet(&since, p, t) {

@@ -20,8 +20,8 @@ use Rattle.programmes.specs.Places.{halfAt}
 use Rattle.programmes.proofs.Moves.{halves-length}
 use Rattle.programmes.proofs.Moved.{moved-length}
 use Rattle.calls.specs.declared.Core.{Core}
-use Rattle.calls.specs.Cores.{Held, listed, roomFor, droppedRoom, opened}
-use Rattle.calls.specs.Sync.{withSync, lostNow}
+use Rattle.calls.specs.Cores.{Held, listed, roomFor, droppedRoom, opened, withSync}
+use Rattle.calls.specs.Sync.{lostNow}
 use Rattle.calls.specs.Steps.{arrivedTable, arrivedProgramme, newList, listedBy, relisted, bytesOf, builtIn, jobOf, counted, step1}
 use Rattle.calls.specs.Calls.{tableSize}
 use Rattle.calls.proofs.Moves.{Among, here, there, Moves, packet-moves, sync-moves}

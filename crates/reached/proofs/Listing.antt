@@ -1,5 +1,5 @@
 -- The list read from a section of bytes is sound, whatever the section says. Assumes nothing.
-use mathlib.Core.Path.{_≡_, refl, sym, ap, _∙_}
+use mathlib.Core.Path.{_≡_, refl, sym, ap, subst, _∙_}
 use mathlib.Core.Bool.{Bool, true, false, cond, not, _&&_, _||_, true≢false}
 use mathlib.Core.List.{List, [], _∷_}
 use Prim.Native.Nat.{ℕ, zero, suc, _+_, _-_, _≤_, _<_}
@@ -14,7 +14,8 @@ use Rattle.lists.proofs.Tests.{and-left, and-right, or-false-left, or-false-rig
 use Rattle.watches.specs.declared.Entry.{Entry}
 use Rattle.watches.specs.Tables.{noEntry, latestTime}
 use Rattle.programmes.specs.declared.Listed.{Listed}
-use Rattle.programmes.specs.Listing.{mostListed, lowestPid, nullPid, numberOf, entryPid, entriesOf, isNumber, pidUnusable, isPair, sinceOf, madeBad, listedWith, entered, readOn, noneListed, listOf}
+use Rattle.programmes.specs.Listing.{mostListed, lowestPid, nullPid, numberOf, entryPid, entriesOf, isNumber, pidUnusable, isPair, entryFor, madeBad, listedWith, entered, readOn, noneListed, listOf}
+use Rattle.programmes.proofs.Entries.{entry-number, entry-pid}
 use Rattle.calls.specs.Sound.{numberAmong, entrySound, entriesSound}
 use Rattle.calls.specs.Steps.{touched}
 use Rattle.calls.proofs.Accepted.{SoundEntry, entry-parts, entry-whole, entries-whole}
@@ -22,15 +23,15 @@ use Rattle.reached.specs.Reached.{Bytes}
 use Rattle.reached.proofs.Places.{all-part}
 
 -- THE WATCH of a pair begins at a sound time
-pub since-sound : (t : ℕ) (old : List Entry) (n q : ℕ) → t ≤ latestTime → entriesSound old ≡ true → sinceOf t old n q ≤ latestTime
-unfolding sinceOf entriesSound
+pub since-sound : (t : ℕ) (old : List Entry) (n q : ℕ) → t ≤ latestTime → entriesSound old ≡ true → entryFor t old n q .since ≤ latestTime
+unfolding entryFor entriesSound
 since-sound t [] n q h e = h
 since-sound t (x ∷ old) n q h e =
     let first = and-left (entrySound x && not (numberAmong (x .number) old)) (entriesSound old) e in
     let rest = and-right (entrySound x && not (numberAmong (x .number) old)) (entriesSound old) e in
     go (isPair n q x) (entry-parts x (and-left (entrySound x) (not (numberAmong (x .number) old)) first) .since) (since-sound t old n q h rest)
   where
-    go : (b : Bool) → x .since ≤ latestTime → sinceOf t old n q ≤ latestTime → cond b (x .since) (sinceOf t old n q) ≤ latestTime
+    go : (b : Bool) → x .since ≤ latestTime → entryFor t old n q .since ≤ latestTime → cond b x (entryFor t old n q) .since ≤ latestTime
     go true a r = a
     go false a r = r
 
@@ -125,7 +126,7 @@ module _ (t : ℕ) (old : List Entry) (time : t ≤ latestTime) (sound : entries
   entered-half seen n q l small h = go (eqb n 0) refl (pidUnusable q || (isNumber n seen || leb mostListed (l .count))) refl
     where
       entry : Entry
-      entry = record { number = n; pid = q; since = sinceOf t old n q }
+      entry = entryFor t old n q
 
       go : (zero : Bool) → eqb n 0 ≡ zero → (bad : Bool) → (pidUnusable q || (isNumber n seen || leb mostListed (l .count))) ≡ bad
           → Half (n ∷ seen) (cond zero l (cond bad (madeBad l) (listedWith entry l)))
@@ -137,13 +138,14 @@ module _ (t : ℕ) (old : List Entry) (time : t ≤ latestTime) (sound : entries
           let null = eqb-false q nullPid (or-false-right (ltb q lowestPid) (eqb q nullPid) pid) in
           let good : SoundEntry entry =
           record {
-            number = eqb-false n 0 z;
-            low = ltb-false q lowestPid (or-false-left (ltb q lowestPid) (eqb q nullPid) pid);
-            high = omega arith;
+            number = λ none. eqb-false n 0 z (sym (entry-number t old n q) ∙ none);
+            low = rw (entry-pid t old n q) (ltb-false q lowestPid (or-false-left (ltb q lowestPid) (eqb q nullPid) pid));
+            high = rw (entry-pid t old n q) (omega arith);
             since = since-sound t old n q time sound;
           } in
-          listed-half seen l h entry good (or-false-left (isNumber n seen) (leb mostListed (l .count)) rest)
-          (leb-false mostListed (l .count) (or-false-right (isNumber n seen) (leb mostListed (l .count)) rest))
+          let new : isNumber (entry .number) seen ≡ false = rw (entry-number t old n q) (or-false-left (isNumber n seen) (leb mostListed (l .count)) rest) in
+          subst (λ (x : ℕ). Half (x ∷ seen) (listedWith entry l)) (entry-number t old n q)
+          (listed-half seen l h entry good new (leb-false mostListed (l .count) (or-false-right (isNumber n seen) (leb mostListed (l .count)) rest)))
 
   -- ALL ENTRIES
   pub read-sound : (seen : List ℕ) (l : Listed) (s : List ℕ) → Bytes s → Half seen l → SoundListed (readOn t old seen l s)

@@ -5,27 +5,32 @@ use mathlib.Core.List.{List}
 use Prim.Native.Nat.{ℕ, zero, _+_, _≤_}
 use native.Mathlib.Omega.{arith}
 use lib.Dec.{eqb}
-use lib.ListN.{length, length-append}
+use lib.ListN.{length, length-append, length-take}
 use borrow.Author.Tests.{eqb-true, eqb-false}
-use Rattle.watches.specs.Tables.{fixedTables}
-use Rattle.watches.specs.Late.{tablesLate, entriesLate}
-use Rattle.watches.proofs.Late.{tables-most, entries-most}
+use Rattle.events.specs.Room.{mostEvents}
+use Rattle.watches.specs.Tables.{fixedTables, fixedCount}
+use Rattle.watches.specs.Late.{tableRows, entryRows}
+use Rattle.watches.proofs.Late.{few-both, rows-most, fixed-rows-few, tables-within, entries-few, entries-length}
 use Rattle.calls.specs.declared.Core.{Core}
 use Rattle.calls.specs.declared.State.{State}
-use Rattle.calls.specs.Cores.{listed, lateOf}
+use Rattle.calls.specs.Cores.{listed, boardOf, lateOf}
 use Rattle.calls.specs.Calls.{packetRefusal, clockRefusal, heldOf, stepped, packetCall, clockCall, answerOf}
 use Rattle.calls.proofs.Own.{packet-own}
 use Rattle.calls.proofs.Accepted.{sound-parts, packet-accepted, clock-accepted, packet-call-accepted, packet-call-refused, clock-call-accepted, clock-call-refused}
 
--- LATE EVENTS: five fixed watches and the listed ones
-pub late-of-most : (p t : ℕ) (c : Core) → length (lateOf p t c) ≤ 5 + c .count
+-- LATE EVENTS: one for each watch of the board, the fixed ones and the listed ones
+pub late-of-most : (p t : ℕ) (c : Core) → length (lateOf p t c) ≤ fixedCount + c .count
 unfolding lateOf
 late-of-most p t c =
+    let tables = tableRows fixedTables (c .since) in
+    let entries = entryRows (listed c) in
     omega (
       arith,
-      length-append (tablesLate p t fixedTables (c .since)) (entriesLate p t (listed c)),
-      tables-most p t 5 fixedTables (c .since),
-      entries-most p t (c .count) (c .entries),
+      rows-most 1 p t (boardOf c) (few-both 1 tables entries (fixed-rows-few (c .since)) (entries-few (listed c))),
+      length-append tables entries,
+      tables-within fixedTables (c .since),
+      entries-length (listed c),
+      length-take (c .count) (c .entries),
     )
 
 -- THE PAPER'S SENTENCE ("n is never above 87"): 5 + 16 late, one of continuity and 61 of sections are 83
@@ -46,7 +51,7 @@ most-events s t p counters m room = go (eqb (packetRefusal s t p counters m room
         ))
     go false e = rw (packet-call-refused s t p counters m room (eqb-false (packetRefusal s t p counters m room) 0 e)) (omega arith)
 
-pub most-events-paper : (s : State) (t : ℕ) (p counters m : List ℕ) (room : ℕ) → answerOf (packetCall s t p counters m room) .n ≤ 87
+pub most-events-paper : (s : State) (t : ℕ) (p counters m : List ℕ) (room : ℕ) → answerOf (packetCall s t p counters m room) .n ≤ mostEvents
 most-events-paper s t p counters m room = omega (arith, most-events s t p counters m room)
 
 pub most-events-clock : (s : State) (t : ℕ) (m : List ℕ) (room : ℕ) → length (clockCall s t m room .events) ≤ 21

@@ -8,14 +8,15 @@ use native.Mathlib.Omega.{arith}
 use lib.Dec.{ltb, eqb}
 use lib.ListN.{length, length-replicate}
 use borrow.Author.Tests.{eq-eqb, eqb-true, eqb-false}
+use Rattle.events.specs.Room.{leastRoom}
 use Rattle.watches.specs.Tables.{latestTime}
 use Rattle.header.specs.Header.{packetSize, pidOf}
 use Rattle.continuity.specs.Continuity.{knownByte}
 use Rattle.calls.specs.declared.State.{State}
-use Rattle.calls.specs.Cores.{openedState}
 use Rattle.calls.specs.Sound.{timeSound, stateSound}
-use Rattle.calls.specs.Calls.{tableSize, leastRoom, openRefusal, openState, openTable, packetRefusal, clockRefusal, heldOf, packetCall, clockCall}
+use Rattle.calls.specs.Calls.{tableSize, openRefusal, openState, openTable, packetRefusal, clockRefusal, heldOf, packetCall, clockCall}
 use Rattle.calls.proofs.Accepted.{entries-parts, sound-whole, open-accepted, packet-accepted, accepted-packet, clock-accepted, accepted-clock, packet-call-accepted, packet-call-refused, clock-call-accepted, clock-call-refused}
+use Rattle.calls.specs.Cores.{openedState}
 use Rattle.reached.specs.Reached.{Bytes, Reached, opening, packet, clock}
 use Rattle.reached.proofs.Places.{all-replicate}
 use Rattle.reached.proofs.Kept.{Kept, Known, opened-kept, packet-kept}

@@ -31,7 +31,7 @@ unfoldable pub crcWrong : List ℕ → Bool
 crcWrong s = crcJudged s && not (eqb (crcOf s) 0)
 
 abbrev pub rightId : ℕ → ℕ
-rightId r = tableOf r .tableId
+rightId r = tableOf r .id
 
 abbrev pub isPmtRoom : ℕ → Bool
 isPmtRoom r = leb (length fixedTables) r

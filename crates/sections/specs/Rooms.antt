@@ -12,6 +12,7 @@ use mathlib.Core.Bool.{cond}
 use mathlib.Core.List.{List}
 use lib.Dec.{ltb, eqb}
 use Rattle.lists.specs.Places.{part}
+use Rattle.watches.specs.Tables.{fixedCount}
 
 abbrev pub memorySize : ℕ
 memorySize = 24576
@@ -32,7 +33,7 @@ abbrev pub tdtRoom : ℕ
 tdtRoom = 4
 
 abbrev pub roomOfPlace : ℕ → ℕ
-roomOfPlace k = 5 + k
+roomOfPlace k = fixedCount + k
 
 abbrev pub roomBase : ℕ → ℕ
 roomBase r = cond (ltb eitRoom r) (3072 + 1024 * r) (1024 * r)

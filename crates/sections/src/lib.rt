@@ -1,5 +1,12 @@
 // Sections: built from payloads in rooms of lent memory, and judged when they are finished (document 01,
 // "Building sections").
+use events::BAD;
+use events::CRC_ERROR;
+use events::NO_CAUSE;
+use events::PAT_ERROR;
+use events::PMT_ERROR;
+use events::WRONG_TABLE;
+use watches::FIXED;
 ghost use mathlib.Core.Path.{_≡_};
 ghost use mathlib.Core.Bool.{true, cond};
 ghost use Prim.Native.Nat.{_+_, _-_, _<_, _≤_};
@@ -36,25 +43,17 @@ pub struct Laid {
     pub stage: Stage,
 }
 
-const PAT_ROOM: usize = 0;
+// The bytes of section memory.
+pub const MEMORY: usize = 24576;
+
+// How many rooms it has: one for each fixed table, one for each place of the list.
+pub const ROOMS: usize = 21;
+
+pub const PAT_ROOM: usize = 0;
 
 const EIT_ROOM: usize = 3;
 
 const TDT_ROOM: usize = 4;
-
-const FIXED_ROOMS: usize = 5;
-
-const PAT_ERROR: u16 = 0x0009;
-
-const PMT_ERROR: u16 = 0x000F;
-
-const CRC_ERROR: u16 = 0x0012;
-
-const NO_CAUSE: u8 = 0;
-
-const WRONG_TABLE: u8 = 2;
-
-const BAD: u8 = 4;
 
 // Where a room begins.
 pub fn room_base(room: usize) -> usize
@@ -213,22 +212,7 @@ pub fn lay(mem: &mut [u8], room: usize, half: usize, s: &[u8]) -> Laid
 fn right_id(room: usize) -> usize
     ensures { λ r. ⌜ r ≡ rightId room ⌝ }
 {
-    if room == PAT_ROOM {
-        return 0x00;
-    }
-    if room == 1 {
-        return 0x40;
-    }
-    if room == 2 {
-        return 0x42;
-    }
-    if room == EIT_ROOM {
-        return 0x4E;
-    }
-    if room == TDT_ROOM {
-        return 0x70;
-    }
-    0x02
+    watches::table_of(room).id as usize
 }
 
 // Whether the CRC_32 of a finished section is judged, and wrong.
@@ -282,7 +266,7 @@ fn judge(s: &[u8], room: usize, pid: u16) -> Outcome
             id: pid,
         };
     }
-    if (FIXED_ROOMS <= room) & wrong {
+    if (FIXED <= room) & wrong {
         return Outcome::Fault {
             fault: PMT_ERROR,
             cause: WRONG_TABLE,

@@ -13,6 +13,7 @@ use Rattle.lists.proofs.Laying.{laid-turn}
 use Rattle.events.specs.declared.Event.{Event}
 use Rattle.events.specs.Events.{numbersOf, eventsLaid}
 use Rattle.events.specs.Faults.{transportError, continuityError}
+use Rattle.events.specs.Room.{recordWidth}
 use Rattle.header.specs.declared.Header.{Header}
 use Rattle.header.specs.Header.{rightSync, errorBit, unitStart, pidOf, scrambledBits, controlOf, counterOf, payloadAt, payloadOf, headerOf}
 use Rattle.continuity.specs.declared.Counted.{Counted}
@@ -51,7 +52,7 @@ pub done-also : (x : Step) (es : List Event) (k most : ℕ) (c : Core) (cs m bef
     → i ≡ n + length es → mid ≡ eventsLaid before n es → i ≤ n + k → Done x most c cs m mid i after r
     → Done (also es x) (k + most) c cs m before n after r
 done-also x es k most c cs m before n mid i after r ei el few d =
-    let w = laid-turn numbersOf 4 (λ e. refl) n i r before mid after es (x .events) ei el (d .next) (d .laid) in
+    let w = laid-turn numbersOf recordWidth (λ e. refl) n i r before mid after es (x .events) ei el (d .next) (d .laid) in
     record { core = d .core; counters = d .counters; memory = d .memory; next = w .0; laid = w .1; few = omega (arith, d .few) }
 
 -- THE HEADER, field by field

@@ -13,10 +13,10 @@ use Rattle.sections.specs.Rooms.{roomCount, greatestLength, halfBuilt}
 use Rattle.sections.specs.Section.{stageOf, isMore}
 use Rattle.programmes.specs.Places.{placeOf, isListed}
 use Rattle.calls.specs.declared.Core.{Core}
-use Rattle.calls.specs.Cores.{roomFor, withHalf}
+use Rattle.calls.specs.Cores.{roomFor, withHalf, withSync}
 use Rattle.calls.proofs.Accepted.{room-empty}
 use Rattle.calls.specs.Sound.{roomSound, roomsFrom, roomsSound}
-use Rattle.calls.specs.Sync.{Synced, withSync, lostNow, inSync, whileLost, syncedOf}
+use Rattle.calls.specs.Sync.{Synced, lostNow, inSync, whileLost, syncedOf}
 use Rattle.arrays.specs.Lent.{countIn, entriesIn, listedIn}
 use Rattle.arrays.proofs.Stores.{entries-length}
 

@@ -16,15 +16,16 @@ use lib.ListN.{length}
 use Rattle.events.specs.declared.Event.{Event}
 use Rattle.events.specs.Faults.{noCause}
 use Rattle.events.specs.Events.{eventAt, eventsLaid}
+use Rattle.events.specs.Room.{leastRoom, numberRoom}
 use Rattle.header.specs.Header.{packetSize, pidOf, unitStart, payloadOf}
 use Rattle.sections.specs.Rooms.{memorySize}
 use Rattle.programmes.specs.Listing.{mostListed}
 use Rattle.calls.specs.declared.Core.{Core}
-use Rattle.calls.specs.Cores.{Held, droppedRoom}
 use Rattle.calls.specs.Sync.{Synced}
 use Rattle.calls.specs.Steps.{Step, sectionsTaken}
 use Rattle.calls.specs.Sound.{roomsSound}
-use Rattle.calls.specs.Calls.{tableSize, leastRoom}
+use Rattle.calls.specs.Calls.{tableSize}
+use Rattle.calls.specs.Cores.{Held, droppedRoom}
 
 pub record Ready (c : Core) (m p list : List ℕ) (n most : ℕ) : Type 0 where
   pub packet : length p ≡ packetSize
@@ -32,7 +33,7 @@ pub record Ready (c : Core) (m p list : List ℕ) (n most : ℕ) : Type 0 where
   pub listed : c .count ≤ mostListed
   pub sound : roomsSound (c .half) m ≡ true
   pub places : n + most ≤ leastRoom
-  pub numbers : 384 ≤ length list
+  pub numbers : numberRoom ≤ length list
 
 pub record Judgeable (c : Core) (p counters m list : List ℕ) (n : ℕ) : Type 0 where
   pub ready : Ready c m p list n 65

@@ -2,12 +2,25 @@
 // as stamp and the packet's 13 PID bits as id. Step 1 is in `sync`.
 mod sync;
 
+use events::CONTINUITY_ERROR;
+use events::NO_CAUSE;
+use events::PAT_ERROR;
+use events::PMT_ERROR;
+use events::SCRAMBLED;
+use events::TRANSPORT_ERROR;
 use header::Header;
+use header::SYNC_BYTE;
+use programmes::NULL_PID;
+use sections::MEMORY;
+use sections::ROOMS;
+use watches::FIXED;
+use watches::PAT_PID;
 ghost use mathlib.Core.Path.{_≡_};
 ghost use mathlib.Core.Bool.{true, cond};
 ghost use mathlib.Core.List.{List, [], _∷_};
 ghost use Prim.Native.Nat.{ℕ, _+_, _<_, _≤_};
 ghost use lib.ListN.{length, set};
+ghost use Rattle.events.specs.Room.{leastRoom, numberRoom};
 ghost use Rattle.events.specs.Events.{eventsLaid};
 ghost use Rattle.events.specs.Faults.{continuityError};
 ghost use Rattle.watches.specs.Tables.{fixedTables};
@@ -17,7 +30,7 @@ ghost use Rattle.programmes.specs.Listing.{mostListed};
 ghost use Rattle.programmes.specs.Places.{isListed};
 ghost use Rattle.calls.specs.Cores.{fixedRoom, listRoom, roomFor, withHalf};
 ghost use Rattle.calls.specs.Steps.{scramblingEvents, step1, step2, step4};
-ghost use Rattle.arrays.specs.Lent.{wordCount, countIn, listedIn, halvesIn, coreIn, Sized, LatestKept, SyncKept, Moved, SyncTold};
+ghost use Rattle.arrays.specs.Lent.{wordCount, countIn, listedIn, halvesIn, coreIn, Sized, LatestKept, SyncKept, Moved, SyncTold, coreWordCount};
 ghost use Rattle.payloads.specs.Taking.{held};
 ghost use Rattle.steps.specs.Judging.{Ready, Judgeable, Done, faultEvents, coursed};
 
@@ -27,78 +40,48 @@ struct Caught {
     further: bool,
 }
 
-const SYNC_BYTE: u8 = 0x47;
-
-const NULL_PID: u16 = 0x1FFF;
-
-const PAT_PID: u16 = 0x0000;
-
-const FIXED_ROOMS: usize = 5;
-
-const ROOM_COUNT: usize = 21;
-
-const PAT_ERROR: u16 = 0x0009;
-
-const CONTINUITY_ERROR: u16 = 0x000E;
-
-const PMT_ERROR: u16 = 0x000F;
-
-const TRANSPORT_ERROR: u16 = 0x0011;
-
-const NO_CAUSE: u8 = 0;
-
-const SCRAMBLED: u8 = 3;
-
-// The place of a PID in the table of fixed watches, or 5.
+// The place of a PID in the table of fixed watches, or their number.
 fn fixed_room(pid: u16) -> usize
     ensures { λ r. ⌜ r ≡ fixedRoom pid fixedTables ⌝ }
 {
-    if pid == PAT_PID {
-        return 0;
+    let mut k: usize = 0;
+    while k < FIXED {
+        if watches::table_of(k).pid == pid {
+            return k;
+        }
+        k += 1;
     }
-    if pid == 0x0010 {
-        return 1;
-    }
-    if pid == 0x0011 {
-        return 2;
-    }
-    if pid == 0x0012 {
-        return 3;
-    }
-    if pid == 0x0014 {
-        return 4;
-    }
-    FIXED_ROOMS
+    FIXED
 }
 
-// The room of a PID by its first place in the list, or 21: no section of it is built.
+// The room of a PID by its first place in the list, or the number of rooms: no section of it is built.
 fn list_room(words: &[u16], pid: u16) -> usize
-    requires { ⌜ (length (now words) ≡ wordCount) × (countIn (now words) ≤ mostListed) ⌝ }
+    requires { ⌜ (coreWordCount ≤ length (now words)) × (countIn (now words) ≤ mostListed) ⌝ }
     ensures { λ r. ⌜ ((times : List ℕ) → r ≡ listRoom pid (listedIn times (now (words .entry)))) ⌝ }
 {
     let place = arrays::place_in(words, pid);
     if place < arrays::count_in(words) {
-        return FIXED_ROOMS + place;
+        return FIXED + place;
     }
-    ROOM_COUNT
+    ROOMS
 }
 
 // Whether a PID is that of a listed programme.
 fn is_listed(words: &[u16], pid: u16) -> bool
-    requires { ⌜ (length (now words) ≡ wordCount) × (countIn (now words) ≤ mostListed) ⌝ }
+    requires { ⌜ (coreWordCount ≤ length (now words)) × (countIn (now words) ≤ mostListed) ⌝ }
     ensures { λ r. ⌜ ((times : List ℕ) → r ≡ isListed pid (listedIn times (now (words .entry)))) ⌝ }
 {
     let place = arrays::place_in(words, pid);
     place < arrays::count_in(words)
 }
 
-// The room where sections of a PID are built, or 21.
+// The room where sections of a PID are built, or the number of rooms.
 fn room_for(words: &[u16], pid: u16) -> usize
-    requires { ⌜ (length (now words) ≡ wordCount) × (countIn (now words) ≤ mostListed) ⌝ }
+    requires { ⌜ (coreWordCount ≤ length (now words)) × (countIn (now words) ≤ mostListed) ⌝ }
     ensures { λ r. ⌜ ((times : List ℕ) → r ≡ roomFor (coreIn times (now (words .entry))) pid) ⌝ }
 {
     let fixed = fixed_room(pid);
-    if fixed < FIXED_ROOMS {
+    if fixed < FIXED {
         return fixed;
     }
     list_room(words, pid)
@@ -110,7 +93,7 @@ fn drop_room(words: &mut [u16], room: usize)
     ensures { λ _. ⌜ ((times : List ℕ) → coreIn times (now (words .exit)) ≡ withHalf (set (halvesIn (now (words .entry))) room 0) (coreIn times (now (words .entry))))
         × SyncKept (now (words .entry)) (now (words .exit)) ⌝ }
 {
-    if ROOM_COUNT <= room {
+    if ROOMS <= room {
         return;
     }
     arrays::set_half(words, room, 0);
@@ -130,7 +113,7 @@ fn keep_room(words: &mut [u16], room: usize, keep: bool)
 
 // Step 5 on a packet that is scrambled: its event, if it has one.
 fn judge_scrambled(words: &[u16], time: u64, pid: u16, numbers: &mut [u64], n: usize) -> usize
-    requires { ⌜ (length (now words) ≡ wordCount) × (countIn (now words) ≤ mostListed) × (n < 96) × (384 ≤ length (now numbers)) ⌝ }
+    requires { ⌜ (length (now words) ≡ wordCount) × (countIn (now words) ≤ mostListed) × (n < leastRoom) × (numberRoom ≤ length (now numbers)) ⌝ }
     ensures { λ r. ⌜ ((times : List ℕ) → (r ≡ n + length (scramblingEvents time (coreIn times (now (words .entry))) pid))
         × (now (numbers .exit) ≡ eventsLaid (now (numbers .entry)) n (scramblingEvents time (coreIn times (now (words .entry))) pid)))
         × (r ≤ n + 1) ⌝ }
@@ -146,7 +129,7 @@ fn judge_scrambled(words: &[u16], time: u64, pid: u16, numbers: &mut [u64], n: u
 
 // The event of step 4, if there is one.
 fn judge_continuity(event: bool, time: u64, pid: u16, numbers: &mut [u64], n: usize) -> usize
-    requires { ⌜ (n < 96) × (384 ≤ length (now numbers)) ⌝ }
+    requires { ⌜ (n < leastRoom) × (numberRoom ≤ length (now numbers)) ⌝ }
     ensures { λ r. ⌜ (r ≡ n + length (faultEvents time pid (cond event (continuityError ∷ []) [])))
         × (now (numbers .exit) ≡ eventsLaid (now (numbers .entry)) n (faultEvents time pid (cond event (continuityError ∷ []) [])))
         × (r ≤ n + 1) ⌝ }
@@ -169,7 +152,7 @@ fn take_course(
     room: usize,
     keep: bool,
     take: bool,
-    memory: &mut [u8; 24576],
+    memory: &mut [u8; MEMORY],
     numbers: &mut [u64],
     n: usize,
 ) -> usize
@@ -207,7 +190,7 @@ fn judge_counter(
     h: Header,
     byte: u8,
     counters: &mut [u8],
-    memory: &mut [u8; 24576],
+    memory: &mut [u8; MEMORY],
     numbers: &mut [u64],
     n: usize,
 ) -> usize
@@ -227,7 +210,7 @@ fn judge_counter(
         drop_room(words, room);
         return last;
     }
-    let take = j.take & (room < ROOM_COUNT);
+    let take = j.take & (room < ROOMS);
     take_course(
         times,
         words,
@@ -252,7 +235,7 @@ fn judge_header(
     h: Header,
     byte: u8,
     counters: &mut [u8],
-    memory: &mut [u8; 24576],
+    memory: &mut [u8; MEMORY],
     numbers: &mut [u64],
     n: usize,
 ) -> usize
@@ -291,7 +274,7 @@ pub fn judge_packet(
     h: Header,
     byte: u8,
     counters: &mut [u8],
-    memory: &mut [u8; 24576],
+    memory: &mut [u8; MEMORY],
     numbers: &mut [u64],
     n: usize,
 ) -> usize

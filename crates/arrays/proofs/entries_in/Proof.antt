@@ -7,6 +7,7 @@ use native.Mathlib.Omega.{arith}
 use lib.ListN.{replicate}
 use Rattle.watches.specs.declared.Entry.{Entry}
 use Rattle.watches.specs.Tables.{noEntry}
+use Rattle.programmes.specs.Listing.{mostListed}
 use Rattle.arrays.specs.Lent.{entryIn}
 use Rattle.arrays.proofs.Tabled.{filled, filled-none, filled-turn, filled-all}
 use Rattle.arrays.proofs.entries_in.Statement.{statement}
@@ -14,7 +15,7 @@ use Rattle.arrays.proofs.entries_in.Tie as tie
 
 -- the entries before the first turn
 abbrev blank : List Entry
-blank = replicate 16 noEntry
+blank = replicate mostListed noEntry
 
 abbrev Inv-loop : tie.InvT-loop
 Inv-loop times words out₀ n k₀ out k = (k ≤ n) × (out ≡ filled (entryIn times words) k blank)
@@ -23,10 +24,10 @@ abbrev μ-loop : tie.MeasureT-loop
 μ-loop times words out₀ n k₀ out k = n - k
 
 abbrev Inv-loop2 : tie.InvT-loop2
-Inv-loop2 times words out₀ n k₀ out k = (k ≤ 16) × (out ≡ filled (entryIn times words) k blank)
+Inv-loop2 times words out₀ n k₀ out k = (k ≤ mostListed) × (out ≡ filled (entryIn times words) k blank)
 
 abbrev μ-loop2 : tie.MeasureT-loop2
-μ-loop2 times words out₀ n k₀ out k = 16 - k
+μ-loop2 times words out₀ n k₀ out k = mostListed - k
 
 listed-in-requires : tie.Need-listed-in-requires Inv-loop μ-loop Inv-loop2 μ-loop2
 listed-in-requires c κs = search needs
@@ -53,7 +54,7 @@ loop-again : tie.Need-loop-again Inv-loop μ-loop Inv-loop2 μ-loop2
 loop-again c =
     let loop = c .before .before .loop in
     let a = c .before .before .before .before .before .before .args in
-    let h : loop .k < 16 = omega (arith, c .before .before .before .listed-in .ensures) in
+    let h : loop .k < mostListed = omega (arith, c .before .before .before .listed-in .ensures) in
     (omega arith, rw (loop .inv .1, c .entry-at .ensures) (filled-turn (entryIn (a .times .now) (a .words .now)) (loop .k) blank h))
 
 loop2-holds : tie.Need-loop2-holds Inv-loop μ-loop Inv-loop2 μ-loop2
@@ -82,8 +83,8 @@ loop2-again c =
 
 returns : tie.Need-returns Inv-loop μ-loop Inv-loop2 μ-loop2
 returns c =
-    let k : c .before .loop2 .k ≡ 16 = omega arith in
-    c .before .loop2 .inv .1 ∙ rw k (filled-all _ 16 blank (omega arith))
+    let k : c .before .loop2 .k ≡ mostListed = omega arith in
+    c .before .loop2 .inv .1 ∙ rw k (filled-all _ mostListed blank (omega arith))
 
 pub entries-in-spec : {M : Type 1} → statement M
 entries-in-spec =

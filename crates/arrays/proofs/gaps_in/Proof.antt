@@ -4,15 +4,17 @@ use mathlib.Core.Path.{_≡_, sym, _∙_}
 use Prim.Native.Nat.{_+_, _-_, _≤_}
 use native.Mathlib.Omega.{arith}
 use lib.ListN.{getD}
+use Rattle.watches.specs.Tables.{fixedCount}
 use Rattle.arrays.proofs.Tabled.{filled, filled-none, filled-turn, filled-all, part-tabled}
 use Rattle.arrays.proofs.gaps_in.Statement.{statement}
 use Rattle.arrays.proofs.gaps_in.Tie as tie
+use Rattle.arrays.specs.Lent.{gapsAt}
 
 abbrev Inv-loop : tie.InvT-loop
-Inv-loop times out₀ k₀ out k = (k ≤ 5) × (out ≡ filled (λ j. getD times (1 + j) 0) k out₀)
+Inv-loop times out₀ k₀ out k = (k ≤ fixedCount) × (out ≡ filled (λ j. getD times (gapsAt + j) 0) k out₀)
 
 abbrev μ-loop : tie.MeasureT-loop
-μ-loop times out₀ k₀ out k = 5 - k
+μ-loop times out₀ k₀ out k = fixedCount - k
 
 loop-holds : tie.Need-loop-holds Inv-loop μ-loop
 loop-holds c = (omega arith, filled-none _ _)
@@ -45,8 +47,8 @@ loop-again c =
 
 returns : tie.Need-returns Inv-loop μ-loop
 returns c =
-    let k : c .before .loop .k ≡ 5 = omega arith in
-    c .before .loop .inv .1 ∙ rw k (filled-all _ 5 _ (omega arith)) ∙ sym (part-tabled (c .before .before .args .times .now) 0 1 5 (omega arith))
+    let k : c .before .loop .k ≡ fixedCount = omega arith in
+    c .before .loop .inv .1 ∙ rw k (filled-all _ fixedCount _ (omega arith)) ∙ sym (part-tabled (c .before .before .args .times .now) 0 gapsAt fixedCount (omega arith))
 
 pub gaps-in-spec : {M : Type 1} → statement M
 gaps-in-spec =

@@ -4,15 +4,17 @@ use mathlib.Core.Path.{_≡_, sym, _∙_}
 use Prim.Native.Nat.{_+_, _-_, _≤_}
 use native.Mathlib.Omega.{arith}
 use lib.ListN.{getD}
+use Rattle.sections.specs.Rooms.{roomCount}
 use Rattle.arrays.proofs.Tabled.{filled, filled-none, filled-turn, filled-all, part-tabled}
 use Rattle.arrays.proofs.halves_in.Statement.{statement}
 use Rattle.arrays.proofs.halves_in.Tie as tie
+use Rattle.arrays.specs.Lent.{halvesAt}
 
 abbrev Inv-loop : tie.InvT-loop
-Inv-loop words out₀ k₀ out k = (k ≤ 21) × (out ≡ filled (λ j. getD words (32 + j) 0) k out₀)
+Inv-loop words out₀ k₀ out k = (k ≤ roomCount) × (out ≡ filled (λ j. getD words (halvesAt + j) 0) k out₀)
 
 abbrev μ-loop : tie.MeasureT-loop
-μ-loop words out₀ k₀ out k = 21 - k
+μ-loop words out₀ k₀ out k = roomCount - k
 
 loop-holds : tie.Need-loop-holds Inv-loop μ-loop
 loop-holds c = (omega arith, filled-none _ _)
@@ -41,12 +43,12 @@ loop-less c = search needs
 loop-again : tie.Need-loop-again Inv-loop μ-loop
 loop-again c =
     let loop = c .before .before .loop in
-    (omega arith, rw (loop .inv .1) (filled-turn (λ j. getD (c .before .before .before .args .words .now) (32 + j) 0) (loop .k) _ (omega arith)))
+    (omega arith, rw (loop .inv .1) (filled-turn (λ j. getD (c .before .before .before .args .words .now) (halvesAt + j) 0) (loop .k) _ (omega arith)))
 
 returns : tie.Need-returns Inv-loop μ-loop
 returns c =
-    let k : c .before .loop .k ≡ 21 = omega arith in
-    c .before .loop .inv .1 ∙ rw k (filled-all _ 21 _ (omega arith)) ∙ sym (part-tabled (c .before .before .args .words .now) 0 32 21 (omega arith))
+    let k : c .before .loop .k ≡ roomCount = omega arith in
+    c .before .loop .inv .1 ∙ rw k (filled-all _ roomCount _ (omega arith)) ∙ sym (part-tabled (c .before .before .args .words .now) 0 halvesAt roomCount (omega arith))
 
 pub halves-in-spec : {M : Type 1} → statement M
 halves-in-spec =

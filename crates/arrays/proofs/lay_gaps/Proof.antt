@@ -6,15 +6,17 @@ use native.Mathlib.Omega.{arith}
 use lib.ListN.{length, drop, length-set}
 use lib.Seq.{sets}
 use Rattle.lists.proofs.Laying.{sets-turn, sets-none}
+use Rattle.watches.specs.Tables.{fixedCount}
 use Rattle.arrays.proofs.lay_gaps.Statement.{statement}
 use Rattle.arrays.proofs.lay_gaps.Tie as tie
+use Rattle.arrays.specs.Lent.{gapsAt}
 
 abbrev Inv-loop : tie.InvT-loop
 Inv-loop times₀ since k₀ times k =
-    (k ≤ 5) × (length times ≡ length times₀) × (sets times₀ 1 since ≡ sets times (1 + k) (drop k since))
+    (k ≤ fixedCount) × (length times ≡ length times₀) × (sets times₀ gapsAt since ≡ sets times (gapsAt + k) (drop k since))
 
 abbrev μ-loop : tie.MeasureT-loop
-μ-loop times₀ since k₀ times k = 5 - k
+μ-loop times₀ since k₀ times k = fixedCount - k
 
 loop-holds : tie.Need-loop-holds Inv-loop μ-loop
 loop-holds c = (omega arith, refl, refl)

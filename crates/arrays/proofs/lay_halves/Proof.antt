@@ -6,15 +6,17 @@ use native.Mathlib.Omega.{arith}
 use lib.ListN.{length, drop, length-set}
 use lib.Seq.{sets}
 use Rattle.lists.proofs.Laying.{sets-turn, sets-none}
+use Rattle.sections.specs.Rooms.{roomCount}
 use Rattle.arrays.proofs.lay_halves.Statement.{statement}
 use Rattle.arrays.proofs.lay_halves.Tie as tie
+use Rattle.arrays.specs.Lent.{halvesAt}
 
 abbrev Inv-loop : tie.InvT-loop
 Inv-loop words₀ half k₀ words k =
-    (k ≤ 21) × (length words ≡ length words₀) × (sets words₀ 32 half ≡ sets words (32 + k) (drop k half))
+    (k ≤ roomCount) × (length words ≡ length words₀) × (sets words₀ halvesAt half ≡ sets words (halvesAt + k) (drop k half))
 
 abbrev μ-loop : tie.MeasureT-loop
-μ-loop words₀ half k₀ words k = 21 - k
+μ-loop words₀ half k₀ words k = roomCount - k
 
 loop-holds : tie.Need-loop-holds Inv-loop μ-loop
 loop-holds c = (omega arith, refl, refl)
@@ -43,7 +45,7 @@ loop-less c = search needs
 loop-again : tie.Need-loop-again Inv-loop μ-loop
 loop-again c =
     let loop = c .before .loop in
-    (omega arith, simp length-set (loop .inv .1), loop .inv .2 ∙ sets-turn _ 32 (loop .k) _ 0 (omega arith))
+    (omega arith, simp length-set (loop .inv .1), loop .inv .2 ∙ sets-turn _ halvesAt (loop .k) _ 0 (omega arith))
 
 same-length : tie.Need-same-length Inv-loop μ-loop
 same-length c = search needs

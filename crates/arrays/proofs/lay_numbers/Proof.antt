@@ -9,16 +9,18 @@ use mathlib.Core.List.{map}
 use Rattle.lists.proofs.Laying.{sets-none}
 use Rattle.watches.specs.declared.Entry.{Entry}
 use Rattle.watches.specs.Tables.{noEntry}
+use Rattle.programmes.specs.Listing.{mostListed}
 use Rattle.arrays.proofs.Tabled.{length-map, sets-map-turn}
 use Rattle.arrays.proofs.lay_numbers.Statement.{statement}
 use Rattle.arrays.proofs.lay_numbers.Tie as tie
+use Rattle.arrays.specs.Lent.{numbersAt}
 
 abbrev Inv-loop : tie.InvT-loop
 Inv-loop words₀ entries k₀ words k =
-    (k ≤ 16) × (length words ≡ length words₀) × (sets words₀ 0 (map (λ (e : Entry). e .number) entries) ≡ sets words (0 + k) (drop k (map (λ (e : Entry). e .number) entries)))
+    (k ≤ mostListed) × (length words ≡ length words₀) × (sets words₀ numbersAt (map (λ (e : Entry). e .number) entries) ≡ sets words (numbersAt + k) (drop k (map (λ (e : Entry). e .number) entries)))
 
 abbrev μ-loop : tie.MeasureT-loop
-μ-loop words₀ entries k₀ words k = 16 - k
+μ-loop words₀ entries k₀ words k = mostListed - k
 
 loop-holds : tie.Need-loop-holds Inv-loop μ-loop
 loop-holds c = (omega arith, refl, refl)

@@ -9,16 +9,18 @@ use mathlib.Core.List.{map}
 use Rattle.lists.proofs.Laying.{sets-none}
 use Rattle.watches.specs.declared.Entry.{Entry}
 use Rattle.watches.specs.Tables.{noEntry}
+use Rattle.programmes.specs.Listing.{mostListed}
 use Rattle.arrays.proofs.Tabled.{length-map, sets-map-turn}
 use Rattle.arrays.proofs.lay_pids.Statement.{statement}
 use Rattle.arrays.proofs.lay_pids.Tie as tie
+use Rattle.arrays.specs.Lent.{pidsAt}
 
 abbrev Inv-loop : tie.InvT-loop
 Inv-loop words₀ entries k₀ words k =
-    (k ≤ 16) × (length words ≡ length words₀) × (sets words₀ 16 (map (λ (e : Entry). e .pid) entries) ≡ sets words (16 + k) (drop k (map (λ (e : Entry). e .pid) entries)))
+    (k ≤ mostListed) × (length words ≡ length words₀) × (sets words₀ pidsAt (map (λ (e : Entry). e .pid) entries) ≡ sets words (pidsAt + k) (drop k (map (λ (e : Entry). e .pid) entries)))
 
 abbrev μ-loop : tie.MeasureT-loop
-μ-loop words₀ entries k₀ words k = 16 - k
+μ-loop words₀ entries k₀ words k = mostListed - k
 
 loop-holds : tie.Need-loop-holds Inv-loop μ-loop
 loop-holds c = (omega arith, refl, refl)
@@ -49,7 +51,7 @@ loop-again c =
     let loop = c .before .before .loop in
     let entries = c .before .before .before .args .t2 in
     let h : loop .k < length entries = omega arith in
-    (omega arith, simp length-set (loop .inv .1), loop .inv .2 ∙ sets-map-turn (λ (e : Entry). e .pid) _ 16 (loop .k) entries noEntry 0 h)
+    (omega arith, simp length-set (loop .inv .1), loop .inv .2 ∙ sets-map-turn (λ (e : Entry). e .pid) _ pidsAt (loop .k) entries noEntry 0 h)
 
 same-length : tie.Need-same-length Inv-loop μ-loop
 same-length c = search needs

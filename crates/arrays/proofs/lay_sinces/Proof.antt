@@ -9,16 +9,18 @@ use mathlib.Core.List.{map}
 use Rattle.lists.proofs.Laying.{sets-none}
 use Rattle.watches.specs.declared.Entry.{Entry}
 use Rattle.watches.specs.Tables.{noEntry}
+use Rattle.programmes.specs.Listing.{mostListed}
 use Rattle.arrays.proofs.Tabled.{length-map, sets-map-turn}
 use Rattle.arrays.proofs.lay_sinces.Statement.{statement}
 use Rattle.arrays.proofs.lay_sinces.Tie as tie
+use Rattle.arrays.specs.Lent.{sincesAt}
 
 abbrev Inv-loop : tie.InvT-loop
 Inv-loop times₀ entries k₀ times k =
-    (k ≤ 16) × (length times ≡ length times₀) × (sets times₀ 6 (map (λ (e : Entry). e .since) entries) ≡ sets times (6 + k) (drop k (map (λ (e : Entry). e .since) entries)))
+    (k ≤ mostListed) × (length times ≡ length times₀) × (sets times₀ sincesAt (map (λ (e : Entry). e .since) entries) ≡ sets times (sincesAt + k) (drop k (map (λ (e : Entry). e .since) entries)))
 
 abbrev μ-loop : tie.MeasureT-loop
-μ-loop times₀ entries k₀ times k = 16 - k
+μ-loop times₀ entries k₀ times k = mostListed - k
 
 loop-holds : tie.Need-loop-holds Inv-loop μ-loop
 loop-holds c = (omega arith, refl, refl)
@@ -49,7 +51,7 @@ loop-again c =
     let loop = c .before .before .loop in
     let entries = c .before .before .before .args .t2 in
     let h : loop .k < length entries = omega arith in
-    (omega arith, simp length-set (loop .inv .1), loop .inv .2 ∙ sets-map-turn (λ (e : Entry). e .since) _ 6 (loop .k) entries noEntry 0 h)
+    (omega arith, simp length-set (loop .inv .1), loop .inv .2 ∙ sets-map-turn (λ (e : Entry). e .since) _ sincesAt (loop .k) entries noEntry 0 h)
 
 same-length : tie.Need-same-length Inv-loop μ-loop
 same-length c = search needs

@@ -3,7 +3,7 @@ use borrow.Author.Needs.{needs}
 use mathlib.Core.Path.{ap, _∙_}
 use lib.ListN.{length, length-set}
 use lib.Seq.{length-sets}
-use Rattle.arrays.proofs.Packing.{times-laid}
+use Rattle.arrays.proofs.Packing.{times-laid, times-length, times-whole}
 use Rattle.arrays.proofs.lay_times.Statement.{statement}
 use Rattle.arrays.proofs.lay_times.Tie as tie
 
@@ -21,7 +21,12 @@ same-length c = ap length (c .before .before .lay-sinces .ensures .0) ∙ simp l
 
 returns : tie.Need-returns
 returns c =
-    c .before .before .lay-sinces .ensures .0 ∙ rw (c .before .before .before .before .before .before .before .lay-gaps .ensures) (times-laid (c .before .before .before .before .before .before .before .before .before .before .before .args .state) (c .before .before .lay-sinces .ensures .1) (c .before .before .before .before .before .before .before .before .before .before .before .args .times .now) (c .before .before .before .before .before .before .before .before .before .before .before .pre) (search needs))
+    let start = c .before .before .before .before .before .before .before .before .before .before .before in
+    let state = start .args .state in
+    let places = c .before .before .lay-sinces .ensures .1 in
+    c .before .before .lay-sinces .ensures .0
+    ∙ rw (c .before .before .before .before .before .before .before .lay-gaps .ensures) (times-laid state places (start .args .times .now) (search needs))
+    ∙ times-whole state (start .args .times .now) (times-length state places (search needs)) (start .pre)
 
 pub lay-times-spec : {M : Type 1} → statement M
 lay-times-spec =

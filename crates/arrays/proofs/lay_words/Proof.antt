@@ -1,7 +1,7 @@
 -- `arrays::lay_words` meets its contract. Assumes nothing.
 use borrow.Author.Needs.{needs}
 use mathlib.Core.Path.{_∙_}
-use Rattle.arrays.proofs.Packing.{words-laid}
+use Rattle.arrays.proofs.Packing.{words-laid, words-length, words-whole}
 use Rattle.arrays.proofs.lay_words.Statement.{statement}
 use Rattle.arrays.proofs.lay_words.Tie as tie
 
@@ -31,10 +31,15 @@ same-length c = search needs
 
 returns : tie.Need-returns
 returns c =
-    let state = c .before .before .before .before .before .before .before .before .before .before .before .before .before .before .before .before .before .before .before .before .before .before .args .state in
+    let start = c .before .before .before .before .before .before .before .before .before .before .before .before .before .before .before .before .before .before .before .before .before .before in
+    let state = start .args .state in
+    let words = start .args .words .now in
+    let places = c .before .before .before .before .before .before .before .before .before .before .before .before .before .before .before .before .before .before .lay-numbers .ensures .1 in
+    let halves = c .before .before .before .before .before .before .before .before .before .lay-halves .ensures in
     c .before .before .lay-marks .ensures
-    ∙ rw (c .before .before .before .before .before .count-word .ensures, c .before .before .before .before .before .before .lost-word .ensures, c .before .before .before .before .before .before .before .before .before .lay-halves .ensures .0, c .before .before .before .before .before .before .before .before .before .before .before .before .before .before .lay-pids .ensures, c .before .before .before .before .before .before .before .before .before .before .before .before .before .before .before .before .before .before .lay-numbers .ensures .0)
-    (words-laid state (c .before .before .before .before .before .before .before .before .before .before .before .before .before .before .before .before .before .before .lay-numbers .ensures .1) (c .before .before .before .before .before .before .before .before .before .before .before .before .before .before .before .before .before .before .before .before .before .before .args .words .now) (c .before .before .before .before .before .before .before .before .before .before .before .before .before .before .before .before .before .before .before .before .before .before .pre) (c .before .before .before .before .before .before .before .before .before .lay-halves .ensures .1))
+    ∙ rw (c .before .before .before .before .before .count-word .ensures, c .before .before .before .before .before .before .lost-word .ensures, halves .0, c .before .before .before .before .before .before .before .before .before .before .before .before .before .before .lay-pids .ensures, c .before .before .before .before .before .before .before .before .before .before .before .before .before .before .before .before .before .before .lay-numbers .ensures .0)
+    (words-laid state places words (halves .1))
+    ∙ words-whole state words (words-length state places (halves .1)) (start .pre)
 
 pub lay-words-spec : {M : Type 1} → statement M
 lay-words-spec =

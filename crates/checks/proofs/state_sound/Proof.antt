@@ -2,16 +2,18 @@
 use borrow.Author.Needs.{needs}
 use native.Mathlib.Omega.{arith}
 use denote.Ref.{now}
-use mathlib.Core.Path.{_≡_, sym, ap, ap₂, _∙_}
-use mathlib.Core.Bool.{Bool, true, false, cond}
-use mathlib.Core.List.{List}
+use mathlib.Core.Path.{_≡_, sym, ap, _∙_}
+use mathlib.Core.Bool.{true, false}
 use Prim.Native.Nat.{ℕ}
 use lib.Dec.{leb}
 use lib.ListN.{length, take}
 use borrow.Author.Tests.{lt-leb, le-leb, not-true, not-false}
 use Rattle.lists.proofs.Places.{part-length}
-use Rattle.calls.specs.Sound.{timesSound, entriesSound, roomsSound, stateSound}
-use Rattle.arrays.specs.Lent.{syncLost, syncRun, gapsIn, countIn, entriesIn, listedIn, stateIn}
+use Rattle.watches.specs.Tables.{fixedCount}
+use Rattle.sections.specs.Rooms.{roomCount}
+use Rattle.programmes.specs.Listing.{mostListed}
+use Rattle.calls.specs.Sound.{timesSound, entriesSound, stateSound}
+use Rattle.arrays.specs.Lent.{gapsIn, countIn, entriesIn, listedIn, stateIn, gapsAt, halvesAt}
 use Rattle.checks.proofs.state_sound.Statement.{statement}
 use Rattle.checks.proofs.state_sound.Tie as tie
 
@@ -27,7 +29,7 @@ gaps-of-requires : tie.Need-gaps-of-requires
 gaps-of-requires c κs = search needs
 
 times-sound-requires : tie.Need-times-sound-requires
-times-sound-requires c κs = ap length (c .gaps-of .ensures) ∙ part-length (now (c .before .before .before .before .before .before .args .times)) 1 5 (omega arith)
+times-sound-requires c κs = ap length (c .gaps-of .ensures) ∙ part-length (now (c .before .before .before .before .before .before .args .times)) gapsAt fixedCount (omega arith)
 
 returns-2 : tie.Need-returns-2
 unfolding stateSound stateIn
@@ -46,7 +48,7 @@ returns-3 c =
     let times = now (c .before .before .before .before .before .before .before .before .before .before .args .times) in
     let words = now (c .before .before .before .before .before .before .before .before .before .before .args .words) in
     let gaps : timesSound (gapsIn times) ≡ true = ap timesSound (sym (c .before .before .before .before .gaps-of .ensures)) ∙ sym (c .before .before .before .times-sound .ensures) ∙ not-false _ (c .before .before .if2 .left) in
-    let few : leb (countIn words) 16 ≡ false = lt-leb _ _ (rw (c .before .count-in .ensures) at (c .if3 .taken)) in
+    let few : leb (countIn words) mostListed ≡ false = lt-leb _ _ (rw (c .before .count-in .ensures) at (c .if3 .taken)) in
     rw (le-leb _ _ (c .before .before .before .before .before .if1 .left), gaps, few)
 
 entries-sound-requires : tie.Need-entries-sound-requires
@@ -58,7 +60,7 @@ returns-4 c =
     let times = now (c .before .before .before .before .before .before .before .before .before .before .before .before .args .times) in
     let words = now (c .before .before .before .before .before .before .before .before .before .before .before .before .args .words) in
     let gaps : timesSound (gapsIn times) ≡ true = ap timesSound (sym (c .before .before .before .before .before .before .gaps-of .ensures)) ∙ sym (c .before .before .before .before .before .times-sound .ensures) ∙ not-false _ (c .before .before .before .before .if2 .left) in
-    let few : leb (countIn words) 16 ≡ true = le-leb _ _ (rw (c .before .before .before .count-in .ensures) at (c .before .before .if3 .left)) in
+    let few : leb (countIn words) mostListed ≡ true = le-leb _ _ (rw (c .before .before .before .count-in .ensures) at (c .before .before .if3 .left)) in
     let entries : entriesSound (listedIn times words) ≡ false = ap (λ (n : ℕ). entriesSound (take n (entriesIn times words))) (sym (c .before .before .before .count-in .ensures)) ∙ sym (c .before .entries-sound .ensures) ∙ not-true _ (c .if4 .taken) in
     rw (le-leb _ _ (c .before .before .before .before .before .before .before .if1 .left), gaps, few, entries)
 
@@ -68,36 +70,23 @@ sync-lost-requires c κs = search needs
 sync-run-requires : tie.Need-sync-run-requires
 sync-run-requires c κs = search needs
 
-run-sound-requires : tie.Need-run-sound-requires
-run-sound-requires c κs = search needs
+halves-of-requires : tie.Need-halves-of-requires
+halves-of-requires c κs = search needs
+
+rest-sound-requires : tie.Need-rest-sound-requires
+rest-sound-requires c κs = (ap length (c .halves-of .ensures) ∙ part-length (now (c .before .before .before .before .before .before .before .before .before .before .before .before .before .before .before .args .words)) halvesAt roomCount (omega arith), search needs)
 
 returns-5 : tie.Need-returns-5
 unfolding stateSound stateIn
 returns-5 c =
-    let times = now (c .before .before .before .before .before .before .before .before .before .before .before .before .before .before .before .before .args .times) in
-    let words = now (c .before .before .before .before .before .before .before .before .before .before .before .before .before .before .before .before .args .words) in
+    let start = c .before .before .before .before .before .before .before .before .before .before .before .before .before .before .before .before in
+    let times = now (start .args .times) in
+    let words = now (start .args .words) in
     let gaps : timesSound (gapsIn times) ≡ true = ap timesSound (sym (c .before .before .before .before .before .before .before .before .before .before .gaps-of .ensures)) ∙ sym (c .before .before .before .before .before .before .before .before .before .times-sound .ensures) ∙ not-false _ (c .before .before .before .before .before .before .before .before .if2 .left) in
-    let few : leb (countIn words) 16 ≡ true = le-leb _ _ (rw (c .before .before .before .before .before .before .before .count-in .ensures) at (c .before .before .before .before .before .before .if3 .left)) in
+    let few : leb (countIn words) mostListed ≡ true = le-leb _ _ (rw (c .before .before .before .before .before .before .before .count-in .ensures) at (c .before .before .before .before .before .before .if3 .left)) in
     let entries : entriesSound (listedIn times words) ≡ true = ap (λ (n : ℕ). entriesSound (take n (entriesIn times words))) (sym (c .before .before .before .before .before .before .before .count-in .ensures)) ∙ sym (c .before .before .before .before .before .entries-sound .ensures) ∙ not-false _ (c .before .before .before .before .if4 .left) in
-    let run : leb (syncRun words) (cond (syncLost words) 4 1) ≡ false = ap₂ (λ (n : ℕ) (b : Bool). leb n (cond b 4 1)) (sym (c .before .before .sync-run .ensures)) (sym (c .before .before .before .sync-lost .ensures)) ∙ sym (c .before .run-sound .ensures) ∙ not-true _ (c .if5 .taken) in
-    rw (le-leb _ _ (c .before .before .before .before .before .before .before .before .before .before .before .if1 .left), gaps, few, entries, run)
-
-halves-of-requires : tie.Need-halves-of-requires
-halves-of-requires c κs = search needs
-
-rooms-sound-requires : tie.Need-rooms-sound-requires
-rooms-sound-requires c κs = (ap length (c .halves-of .ensures) ∙ part-length (now (c .before .before .before .before .before .before .before .before .before .before .before .before .before .before .before .before .before .args .words)) 32 21 (omega arith), search needs)
-
-returns-6 : tie.Need-returns-6
-unfolding stateSound stateIn
-returns-6 c =
-    let times = now (c .before .before .before .before .before .before .before .before .before .before .before .before .before .before .before .before .before .before .args .times) in
-    let words = now (c .before .before .before .before .before .before .before .before .before .before .before .before .before .before .before .before .before .before .args .words) in
-    let gaps : timesSound (gapsIn times) ≡ true = ap timesSound (sym (c .before .before .before .before .before .before .before .before .before .before .before .before .gaps-of .ensures)) ∙ sym (c .before .before .before .before .before .before .before .before .before .before .before .times-sound .ensures) ∙ not-false _ (c .before .before .before .before .before .before .before .before .before .before .if2 .left) in
-    let few : leb (countIn words) 16 ≡ true = le-leb _ _ (rw (c .before .before .before .before .before .before .before .before .before .count-in .ensures) at (c .before .before .before .before .before .before .before .before .if3 .left)) in
-    let entries : entriesSound (listedIn times words) ≡ true = ap (λ (n : ℕ). entriesSound (take n (entriesIn times words))) (sym (c .before .before .before .before .before .before .before .before .before .count-in .ensures)) ∙ sym (c .before .before .before .before .before .before .before .entries-sound .ensures) ∙ not-false _ (c .before .before .before .before .before .before .if4 .left) in
-    let run : leb (syncRun words) (cond (syncLost words) 4 1) ≡ true = ap₂ (λ (n : ℕ) (b : Bool). leb n (cond b 4 1)) (sym (c .before .before .before .before .sync-run .ensures)) (sym (c .before .before .before .before .before .sync-lost .ensures)) ∙ sym (c .before .before .before .run-sound .ensures) ∙ not-false _ (c .before .before .if5 .left) in
-    rw (le-leb _ _ (c .before .before .before .before .before .before .before .before .before .before .before .before .before .if1 .left), gaps, few, entries, run) (c .rooms-sound .ensures ∙ ap (λ (ns : List ℕ). roomsSound ns (now (c .before .before .before .before .before .before .before .before .before .before .before .before .before .before .before .before .before .before .args .memory))) (c .before .halves-of .ensures))
+    rw (le-leb _ _ (c .before .before .before .before .before .before .before .before .before .before .before .if1 .left), gaps, few, entries)
+    (c .rest-sound .ensures ∙ rw (c .before .halves-of .ensures, c .before .before .sync-run .ensures, c .before .before .before .sync-lost .ensures))
 
 pub state-sound-spec : {M : Type 1} → statement M
 state-sound-spec =
@@ -114,8 +103,6 @@ state-sound-spec =
     returns-4
     sync-lost-requires
     sync-run-requires
-    run-sound-requires
-    returns-5
     halves-of-requires
-    rooms-sound-requires
-    returns-6)
+    rest-sound-requires
+    returns-5)

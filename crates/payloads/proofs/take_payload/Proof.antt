@@ -9,8 +9,9 @@ use borrow.Author.Tests.{not-true, not-false}
 use Rattle.lists.proofs.Places.{part-length}
 use Rattle.lists.proofs.Turns.{rest-all}
 use Rattle.sections.specs.Building.{stopped, emptied, begunJob}
+use Rattle.sections.specs.Rooms.{roomCount}
 use Rattle.programmes.specs.Places.{halfAt}
-use Rattle.arrays.specs.Lent.{coreIn}
+use Rattle.arrays.specs.Lent.{coreIn, halvesAt}
 use Rattle.payloads.specs.Parts.{left, went}
 use Rattle.payloads.proofs.Payloads.{shown-as, shown-idle, Resuming, gone-fit, no-start, rest-ignored, rest-follows, taken-no-start, taken-far, taken-near}
 use Rattle.payloads.proofs.Soundness.{takable-more, takable-fit}
@@ -30,7 +31,7 @@ resume-requires c κs =
     let args = start .args in
     let core = coreIn (now (args .times)) (now (args .words)) in
     let half-in = c .before .before .before .before .before .half-in in
-    let fit = takable-fit (start .pre .1) (omega (arith, part-length (now (args .words)) 32 21 (omega (arith, start .pre .0 .wide)))) in
+    let fit = takable-fit (start .pre .1) (omega (arith, part-length (now (args .words)) halvesAt roomCount (omega (arith, start .pre .0 .wide)))) in
     let more = takable-more (start .pre .1) in
     ((start .pre .0, fit), (start .pre .1 .room, start .pre .1 .payload, omega (arith, start .pre .1 .places), rw (half-in .ensures) more))
 
@@ -55,7 +56,7 @@ returns c =
     let args = start .args in
     let core = coreIn (now (args .times)) (now (args .words)) in
     let half-in = c .before .before .before .before .before .before .before .before .before .before .before .before .before .before .before .before .before .half-in in
-    let fit = takable-fit (start .pre .1) (omega (arith, part-length (now (args .words)) 32 21 (omega (arith, start .pre .0 .wide)))) in
+    let fit = takable-fit (start .pre .1) (omega (arith, part-length (now (args .words)) halvesAt roomCount (omega (arith, start .pre .0 .wide)))) in
     let more = takable-more (start .pre .1) in
     let resume = c .before .before .before .before .before .before .before .before .before .before .before .resume in
     let q : Resuming (args .time) (args .room) (args .pid) (now (args .memory)) (halfAt (core .half) (args .room)) (now (args .payload)) core (args .n) (now (args .numbers)) _ _ (went _ (resume .result))
@@ -82,7 +83,7 @@ returns-2 c =
     let args = start .args in
     let core = coreIn (now (args .times)) (now (args .words)) in
     let half-in = c .before .before .before .before .before .before .before .half-in in
-    let fit = takable-fit (start .pre .1) (omega (arith, part-length (now (args .words)) 32 21 (omega (arith, start .pre .0 .wide)))) in
+    let fit = takable-fit (start .pre .1) (omega (arith, part-length (now (args .words)) halvesAt roomCount (omega (arith, start .pre .0 .wide)))) in
     let more = takable-more (start .pre .1) in
     let byte = c .before .before .before .before .before .byte-at in
     let set-half = c .before .before .set-half2 .ensures in
@@ -105,7 +106,7 @@ resume-requires-2 c κs =
     let args = start .args in
     let core = coreIn (now (args .times)) (now (args .words)) in
     let half-in = c .before .before .before .before .before .before .before .before .half-in in
-    let fit = takable-fit (start .pre .1) (omega (arith, part-length (now (args .words)) 32 21 (omega (arith, start .pre .0 .wide)))) in
+    let fit = takable-fit (start .pre .1) (omega (arith, part-length (now (args .words)) halvesAt roomCount (omega (arith, start .pre .0 .wide)))) in
     let more = takable-more (start .pre .1) in
     ((start .pre .0, fit), (start .pre .1 .room, simp (length-take, length-drop) (omega (arith, start .pre .1 .payload)), omega (arith, start .pre .1 .places), rw (half-in .ensures) more))
 
@@ -128,7 +129,7 @@ returns-3 c =
     let args = start .args in
     let core = coreIn (now (args .times)) (now (args .words)) in
     let half-in = c .before .before .before .before .before .before .before .before .before .before .before .before .before .before .before .before .before .before .before .before .half-in in
-    let fit = takable-fit (start .pre .1) (omega (arith, part-length (now (args .words)) 32 21 (omega (arith, start .pre .0 .wide)))) in
+    let fit = takable-fit (start .pre .1) (omega (arith, part-length (now (args .words)) halvesAt roomCount (omega (arith, start .pre .0 .wide)))) in
     let more = takable-more (start .pre .1) in
     let resume = c .before .before .before .before .before .before .before .before .before .before .before .resume2 in
     let q : Resuming (args .time) (args .room) (args .pid) (now (args .memory)) (halfAt (core .half) (args .room)) (take (1 + byte .result - 1) (drop 1 (now (args .payload)))) core (args .n) (now (args .numbers)) _ _ (went _ (resume .result))
@@ -153,7 +154,7 @@ follow-requires c κs =
     let args = start .args in
     let core = coreIn (now (args .times)) (now (args .words)) in
     let half-in = c .before .before .before .before .before .before .before .before .before .before .before .before .before .before .before .before .before .before .before .before .before .half-in in
-    let fit = takable-fit (start .pre .1) (omega (arith, part-length (now (args .words)) 32 21 (omega (arith, start .pre .0 .wide)))) in
+    let fit = takable-fit (start .pre .1) (omega (arith, part-length (now (args .words)) halvesAt roomCount (omega (arith, start .pre .0 .wide)))) in
     let more = takable-more (start .pre .1) in
     let resume = c .before .before .before .before .before .before .before .before .before .before .before .before .resume2 in
     let q : Resuming (args .time) (args .room) (args .pid) (now (args .memory)) (halfAt (core .half) (args .room)) (take (1 + byte .result - 1) (drop 1 (now (args .payload)))) core (args .n) (now (args .numbers)) _ _ (went _ (resume .result))
@@ -184,7 +185,7 @@ returns-4 c =
     let args = start .args in
     let core = coreIn (now (args .times)) (now (args .words)) in
     let half-in = c .before .before .before .before .before .before .before .before .before .before .before .before .before .before .before .before .before .before .before .before .before .before .before .before .before .before .before .before .before .before .before .before .before .half-in in
-    let fit = takable-fit (start .pre .1) (omega (arith, part-length (now (args .words)) 32 21 (omega (arith, start .pre .0 .wide)))) in
+    let fit = takable-fit (start .pre .1) (omega (arith, part-length (now (args .words)) halvesAt roomCount (omega (arith, start .pre .0 .wide)))) in
     let more = takable-more (start .pre .1) in
     let resume = c .before .before .before .before .before .before .before .before .before .before .before .before .before .before .before .before .before .before .before .before .before .before .before .before .resume2 in
     let q : Resuming (args .time) (args .room) (args .pid) (now (args .memory)) (halfAt (core .half) (args .room)) (take (1 + byte .result - 1) (drop 1 (now (args .payload)))) core (args .n) (now (args .numbers)) _ _ (went _ (resume .result))

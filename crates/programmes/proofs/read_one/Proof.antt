@@ -34,8 +34,8 @@ returns-2 c =
     let k = args .k in
     (entered-bad _ _ (seenTo e k) (numberAt e k) (pidIn e k) _ _ says some (not-true _ (c .if2 .taken)), λ z. absurd (true≢false (sym z)))
 
-since-of-requires : tie.Need-since-of-requires
-since-of-requires c κs = search needs
+entry-for-requires : tie.Need-entry-for-requires
+entry-for-requires c κs = search needs
 
 returns-3 : tie.Need-returns-3
 returns-3 c =
@@ -47,7 +47,7 @@ returns-3 c =
     let args = c .before .before .before .before .before .before .before .args in
     let e = now (args .e) in
     let k = args .k in (
-      rw (c .since-of .ensures, number-at .ensures, pid-in .ensures) (entered-listed _ _ (seenTo e k) (numberAt e k) (pidIn e k) _ _ says some usable),
+      rw (c .entry-for .ensures, number-at .ensures, pid-in .ensures) (entered-listed _ _ (seenTo e k) (numberAt e k) (pidIn e k) _ _ says some usable),
       λ z. listed-room (seenTo e k) (numberAt e k) (pidIn e k) _ _ says usable,
     )
 
@@ -60,5 +60,5 @@ read-one-spec =
     returns
     is-usable-requires
     returns-2
-    since-of-requires
+    entry-for-requires
     returns-3)

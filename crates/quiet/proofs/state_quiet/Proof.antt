@@ -11,10 +11,13 @@ use lib.ListN.{length, getD, take}
 use borrow.Author.Tests.{leb-true, not-true, not-false}
 use Rattle.lists.proofs.Places.{part-length}
 use Rattle.lists.proofs.Tests.{and-right}
-use Rattle.watches.specs.Tables.{fixedTables}
+use Rattle.watches.specs.Tables.{fixedTables, fixedCount}
+use Rattle.watches.specs.Late.{tableRows}
+use Rattle.sections.specs.Rooms.{roomCount}
+use Rattle.programmes.specs.Listing.{mostListed}
 use Rattle.calls.specs.Sound.{roomsSound}
-use Rattle.arrays.specs.Lent.{syncLost, syncRun, gapsIn, countIn, entriesIn, halvesIn, stateIn}
-use Rattle.quiet.specs.Quiet.{tablesQuiet, entriesQuiet, unmarked, stateQuiet}
+use Rattle.arrays.specs.Lent.{syncLost, syncRun, gapsIn, countIn, entriesIn, halvesIn, stateIn, latestAt, gapsAt, halvesAt}
+use Rattle.quiet.specs.Quiet.{rowsQuiet, entriesQuiet, unmarked, stateQuiet}
 use Rattle.quiet.proofs.state_quiet.Statement.{statement}
 use Rattle.quiet.proofs.state_quiet.Tie as tie
 
@@ -38,7 +41,7 @@ returns c =
     let words = now (start .args .words) in
     let memory = now (start .args .memory) in
     let count = c .before .before .before .before .count-in .ensures in
-    let sync : (not (syncLost words) && eqb (syncRun words) 0 && leb (countIn words) 16) ≡ false = rw (sym (c .before .before .before .sync-lost .ensures), sym (c .before .before .sync-run .ensures), sym count) (sym (c .before .sync-quiet .ensures) ∙ not-true _ (c .if1 .taken)) in
+    let sync : (not (syncLost words) && eqb (syncRun words) 0 && leb (countIn words) mostListed) ≡ false = rw (sym (c .before .before .before .sync-lost .ensures), sym (c .before .before .sync-run .ensures), sym count) (sym (c .before .sync-quiet .ensures) ∙ not-true _ (c .if1 .taken)) in
     rw (sync)
 
 shared-slice-read-p : tie.Need-shared-slice-read-p
@@ -55,14 +58,14 @@ returns-2 c =
     let words = now (start .args .words) in
     let memory = now (start .args .memory) in
     let count = c .before .before .before .before .before .before .before .count-in .ensures in
-    let sync : (not (syncLost words) && eqb (syncRun words) 0 && leb (countIn words) 16) ≡ true = rw (sym (c .before .before .before .before .before .before .sync-lost .ensures), sym (c .before .before .before .before .before .sync-run .ensures), sym count) (sym (c .before .before .before .before .sync-quiet .ensures) ∙ not-false _ (c .before .before .before .if1 .left)) in
+    let sync : (not (syncLost words) && eqb (syncRun words) 0 && leb (countIn words) mostListed) ≡ true = rw (sym (c .before .before .before .before .before .before .sync-lost .ensures), sym (c .before .before .before .before .before .sync-run .ensures), sym count) (sym (c .before .before .before .before .sync-quiet .ensures) ∙ not-false _ (c .before .before .before .if1 .left)) in
     rw (sync, sym (c .before .latest-quiet .ensures) ∙ not-true _ (c .if2 .taken))
 
 halves-of-requires : tie.Need-halves-of-requires
 halves-of-requires c κs = search needs
 
-rooms-quiet-requires : tie.Need-rooms-quiet-requires
-rooms-quiet-requires c κs = (ap length (c .halves-of .ensures) ∙ part-length (now (c .before .before .before .before .before .before .before .before .before .before .before .before .args .words)) 32 21 (omega arith), search needs)
+rest-quiet-requires : tie.Need-rest-quiet-requires
+rest-quiet-requires c κs = (ap length (c .halves-of .ensures) ∙ part-length (now (c .before .before .before .before .before .before .before .before .before .before .before .before .args .words)) halvesAt roomCount (omega arith), search needs)
 
 returns-3 : tie.Need-returns-3
 unfolding stateQuiet stateIn
@@ -72,15 +75,15 @@ returns-3 c =
     let words = now (start .args .words) in
     let memory = now (start .args .memory) in
     let count = c .before .before .before .before .before .before .before .before .before .before .count-in .ensures in
-    let sync : (not (syncLost words) && eqb (syncRun words) 0 && leb (countIn words) 16) ≡ true = rw (sym (c .before .before .before .before .before .before .before .before .before .sync-lost .ensures), sym (c .before .before .before .before .before .before .before .before .sync-run .ensures), sym count) (sym (c .before .before .before .before .before .before .before .sync-quiet .ensures) ∙ not-false _ (c .before .before .before .before .before .before .if1 .left)) in
-    let rooms : roomsSound (halvesIn words) memory ≡ false = ap (λ (ns : List ℕ). roomsSound ns memory) (sym (c .before .before .halves-of .ensures)) ∙ sym (c .before .rooms-quiet .ensures) ∙ not-true _ (c .if3 .taken) in
+    let sync : (not (syncLost words) && eqb (syncRun words) 0 && leb (countIn words) mostListed) ≡ true = rw (sym (c .before .before .before .before .before .before .before .before .before .sync-lost .ensures), sym (c .before .before .before .before .before .before .before .before .sync-run .ensures), sym count) (sym (c .before .before .before .before .before .before .before .sync-quiet .ensures) ∙ not-false _ (c .before .before .before .before .before .before .if1 .left)) in
+    let rooms : roomsSound (halvesIn words) memory ≡ false = ap (λ (ns : List ℕ). roomsSound ns memory) (sym (c .before .before .halves-of .ensures)) ∙ sym (c .before .rest-quiet .ensures) ∙ not-true _ (c .if3 .taken) in
     rw (sync, sym (c .before .before .before .before .latest-quiet .ensures) ∙ not-false _ (c .before .before .before .if2 .left), rooms)
 
 gaps-of-requires : tie.Need-gaps-of-requires
 gaps-of-requires c κs = search needs
 
 tables-quiet-requires : tie.Need-tables-quiet-requires
-tables-quiet-requires c κs = ap length (c .gaps-of .ensures) ∙ part-length (now (c .before .before .before .before .before .before .before .before .before .before .before .before .before .before .before .args .times)) 1 5 (omega arith)
+tables-quiet-requires c κs = ap length (c .gaps-of .ensures) ∙ part-length (now (c .before .before .before .before .before .before .before .before .before .before .before .before .before .before .before .args .times)) gapsAt fixedCount (omega arith)
 
 returns-4 : tie.Need-returns-4
 unfolding stateQuiet stateIn
@@ -90,9 +93,9 @@ returns-4 c =
     let words = now (start .args .words) in
     let memory = now (start .args .memory) in
     let count = c .before .before .before .before .before .before .before .before .before .before .before .before .before .count-in .ensures in
-    let sync : (not (syncLost words) && eqb (syncRun words) 0 && leb (countIn words) 16) ≡ true = rw (sym (c .before .before .before .before .before .before .before .before .before .before .before .before .sync-lost .ensures), sym (c .before .before .before .before .before .before .before .before .before .before .before .sync-run .ensures), sym count) (sym (c .before .before .before .before .before .before .before .before .before .before .sync-quiet .ensures) ∙ not-false _ (c .before .before .before .before .before .before .before .before .before .if1 .left)) in
-    let rooms : roomsSound (halvesIn words) memory ≡ true = ap (λ (ns : List ℕ). roomsSound ns memory) (sym (c .before .before .before .before .before .halves-of .ensures)) ∙ sym (c .before .before .before .before .rooms-quiet .ensures) ∙ not-false _ (c .before .before .before .if3 .left) in
-    let tables : tablesQuiet (getD times 0 0) (start .args .t) fixedTables (gapsIn times) ≡ false = ap (λ (ss : List ℕ). tablesQuiet (getD times 0 0) (start .args .t) fixedTables ss) (sym (c .before .before .gaps-of .ensures)) ∙ sym (c .before .tables-quiet .ensures) ∙ not-true _ (c .if4 .taken) in
+    let sync : (not (syncLost words) && eqb (syncRun words) 0 && leb (countIn words) mostListed) ≡ true = rw (sym (c .before .before .before .before .before .before .before .before .before .before .before .before .sync-lost .ensures), sym (c .before .before .before .before .before .before .before .before .before .before .before .sync-run .ensures), sym count) (sym (c .before .before .before .before .before .before .before .before .before .before .sync-quiet .ensures) ∙ not-false _ (c .before .before .before .before .before .before .before .before .before .if1 .left)) in
+    let rooms : roomsSound (halvesIn words) memory ≡ true = ap (λ (ns : List ℕ). roomsSound ns memory) (sym (c .before .before .before .before .before .halves-of .ensures)) ∙ sym (c .before .before .before .before .rest-quiet .ensures) ∙ not-false _ (c .before .before .before .if3 .left) in
+    let tables : rowsQuiet (getD times latestAt 0) (start .args .t) (tableRows fixedTables (gapsIn times)) ≡ false = ap (λ (ss : List ℕ). rowsQuiet (getD times latestAt 0) (start .args .t) (tableRows fixedTables ss)) (sym (c .before .before .gaps-of .ensures)) ∙ sym (c .before .tables-quiet .ensures) ∙ not-true _ (c .if4 .taken) in
     rw (sync, sym (c .before .before .before .before .before .before .before .latest-quiet .ensures) ∙ not-false _ (c .before .before .before .before .before .before .if2 .left), rooms, tables)
 
 entries-quiet-requires : tie.Need-entries-quiet-requires
@@ -102,8 +105,8 @@ entries-quiet-requires c κs =
     let words = now (start .args .words) in
     let memory = now (start .args .memory) in
     let count = c .before .before .before .before .before .before .before .before .before .before .before .before .before .count-in .ensures in
-    let sync : (not (syncLost words) && eqb (syncRun words) 0 && leb (countIn words) 16) ≡ true = rw (sym (c .before .before .before .before .before .before .before .before .before .before .before .before .sync-lost .ensures), sym (c .before .before .before .before .before .before .before .before .before .before .before .sync-run .ensures), sym count) (sym (c .before .before .before .before .before .before .before .before .before .before .sync-quiet .ensures) ∙ not-false _ (c .before .before .before .before .before .before .before .before .before .if1 .left)) in
-    let few : countIn words ≤ 16 = leb-true (countIn words) 16 (and-right (not (syncLost words) && eqb (syncRun words) 0) (leb (countIn words) 16) sync) in
+    let sync : (not (syncLost words) && eqb (syncRun words) 0 && leb (countIn words) mostListed) ≡ true = rw (sym (c .before .before .before .before .before .before .before .before .before .before .before .before .sync-lost .ensures), sym (c .before .before .before .before .before .before .before .before .before .before .before .sync-run .ensures), sym count) (sym (c .before .before .before .before .before .before .before .before .before .before .sync-quiet .ensures) ∙ not-false _ (c .before .before .before .before .before .before .before .before .before .if1 .left)) in
+    let few : countIn words ≤ mostListed = leb-true (countIn words) mostListed (and-right (not (syncLost words) && eqb (syncRun words) 0) (leb (countIn words) mostListed) sync) in
     search (needs, few, count)
 
 returns-5 : tie.Need-returns-5
@@ -114,10 +117,10 @@ returns-5 c =
     let words = now (start .args .words) in
     let memory = now (start .args .memory) in
     let count = c .before .before .before .before .before .before .before .before .before .before .before .before .before .before .count-in .ensures in
-    let sync : (not (syncLost words) && eqb (syncRun words) 0 && leb (countIn words) 16) ≡ true = rw (sym (c .before .before .before .before .before .before .before .before .before .before .before .before .before .sync-lost .ensures), sym (c .before .before .before .before .before .before .before .before .before .before .before .before .sync-run .ensures), sym count) (sym (c .before .before .before .before .before .before .before .before .before .before .before .sync-quiet .ensures) ∙ not-false _ (c .before .before .before .before .before .before .before .before .before .before .if1 .left)) in
-    let rooms : roomsSound (halvesIn words) memory ≡ true = ap (λ (ns : List ℕ). roomsSound ns memory) (sym (c .before .before .before .before .before .before .halves-of .ensures)) ∙ sym (c .before .before .before .before .before .rooms-quiet .ensures) ∙ not-false _ (c .before .before .before .before .if3 .left) in
-    let tables : tablesQuiet (getD times 0 0) (start .args .t) fixedTables (gapsIn times) ≡ true = ap (λ (ss : List ℕ). tablesQuiet (getD times 0 0) (start .args .t) fixedTables ss) (sym (c .before .before .before .gaps-of .ensures)) ∙ sym (c .before .before .tables-quiet .ensures) ∙ not-false _ (c .before .if4 .left) in
-    rw (sync, sym (c .before .before .before .before .before .before .before .before .latest-quiet .ensures) ∙ not-false _ (c .before .before .before .before .before .before .before .if2 .left), rooms, tables) (c .entries-quiet .ensures ∙ ap (λ (n : ℕ). entriesQuiet (getD times 0 0) (start .args .t) (start .args .q) unmarked (take n (entriesIn times words))) count)
+    let sync : (not (syncLost words) && eqb (syncRun words) 0 && leb (countIn words) mostListed) ≡ true = rw (sym (c .before .before .before .before .before .before .before .before .before .before .before .before .before .sync-lost .ensures), sym (c .before .before .before .before .before .before .before .before .before .before .before .before .sync-run .ensures), sym count) (sym (c .before .before .before .before .before .before .before .before .before .before .before .sync-quiet .ensures) ∙ not-false _ (c .before .before .before .before .before .before .before .before .before .before .if1 .left)) in
+    let rooms : roomsSound (halvesIn words) memory ≡ true = ap (λ (ns : List ℕ). roomsSound ns memory) (sym (c .before .before .before .before .before .before .halves-of .ensures)) ∙ sym (c .before .before .before .before .before .rest-quiet .ensures) ∙ not-false _ (c .before .before .before .before .if3 .left) in
+    let tables : rowsQuiet (getD times latestAt 0) (start .args .t) (tableRows fixedTables (gapsIn times)) ≡ true = ap (λ (ss : List ℕ). rowsQuiet (getD times latestAt 0) (start .args .t) (tableRows fixedTables ss)) (sym (c .before .before .before .gaps-of .ensures)) ∙ sym (c .before .before .tables-quiet .ensures) ∙ not-false _ (c .before .if4 .left) in
+    rw (sync, sym (c .before .before .before .before .before .before .before .before .latest-quiet .ensures) ∙ not-false _ (c .before .before .before .before .before .before .before .if2 .left), rooms, tables) (c .entries-quiet .ensures ∙ ap (λ (n : ℕ). entriesQuiet (getD times latestAt 0) (start .args .t) (start .args .q) unmarked (take n (entriesIn times words))) count)
 
 pub state-quiet-spec : {M : Type 1} → statement M
 state-quiet-spec =
@@ -132,7 +135,7 @@ state-quiet-spec =
     latest-quiet-requires
     returns-2
     halves-of-requires
-    rooms-quiet-requires
+    rest-quiet-requires
     returns-3
     gaps-of-requires
     tables-quiet-requires

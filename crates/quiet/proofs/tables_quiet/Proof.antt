@@ -2,7 +2,8 @@
 use borrow.Author.Needs.{needs}
 use mathlib.Core.Path.{sym, _∙_}
 use borrow.Author.Tests.{not-true, not-false}
-use Rattle.quiet.specs.Quiet.{tablesQuiet}
+use Rattle.watches.specs.Late.{tableRows}
+use Rattle.quiet.specs.Quiet.{rowsQuiet}
 use Rattle.quiet.proofs.Turns.{cond-same, five-all}
 use Rattle.quiet.proofs.tables_quiet.Statement.{statement}
 use Rattle.quiet.proofs.tables_quiet.Tie as tie
@@ -14,7 +15,7 @@ gap-quiet-requires : tie.Need-gap-quiet-requires
 gap-quiet-requires c κs = search needs
 
 returns : tie.Need-returns
-unfolding tablesQuiet
+unfolding rowsQuiet tableRows
 returns c =
     rw (
       five-all (c .before .before .before .before .args .since .now) (c .before .before .before .before .pre),
@@ -28,7 +29,7 @@ gap-quiet-requires-2 : tie.Need-gap-quiet-requires-2
 gap-quiet-requires-2 c κs = search needs
 
 returns-2 : tie.Need-returns-2
-unfolding tablesQuiet
+unfolding rowsQuiet tableRows
 returns-2 c =
     rw (
       five-all (c .before .before .before .before .before .before .before .args .since .now) (c .before .before .before .before .before .before .before .pre),
@@ -43,7 +44,7 @@ gap-quiet-requires-3 : tie.Need-gap-quiet-requires-3
 gap-quiet-requires-3 c κs = search needs
 
 returns-3 : tie.Need-returns-3
-unfolding tablesQuiet
+unfolding rowsQuiet tableRows
 returns-3 c =
     rw (
       five-all (c .before .before .before .before .before .before .before .before .before .before .args .since .now) (c .before .before .before .before .before .before .before .before .before .before .pre),
@@ -59,7 +60,7 @@ gap-quiet-requires-4 : tie.Need-gap-quiet-requires-4
 gap-quiet-requires-4 c κs = search needs
 
 returns-4 : tie.Need-returns-4
-unfolding tablesQuiet
+unfolding rowsQuiet tableRows
 returns-4 c =
     rw (
       five-all (c .before .before .before .before .before .before .before .before .before .before .before .before .before .args .since .now) (c .before .before .before .before .before .before .before .before .before .before .before .before .before .pre),
@@ -76,7 +77,7 @@ gap-quiet-requires-5 : tie.Need-gap-quiet-requires-5
 gap-quiet-requires-5 c κs = search needs
 
 returns-5 : tie.Need-returns-5
-unfolding tablesQuiet
+unfolding rowsQuiet tableRows
 returns-5 c =
     rw (
       five-all (c .before .before .before .before .before .before .before .before .before .before .before .before .before .before .before .args .since .now) (c .before .before .before .before .before .before .before .before .before .before .before .before .before .before .before .pre),

@@ -6,14 +6,15 @@ use Prim.Native.Nat.{_≤_}
 use lib.ListN.{length}
 use lib.Seq.{set-out}
 use Rattle.lists.proofs.Places.{part-length}
-use Rattle.arrays.specs.Lent.{halvesIn}
+use Rattle.sections.specs.Rooms.{roomCount}
+use Rattle.arrays.specs.Lent.{halvesIn, halvesAt}
 use Rattle.steps.proofs.drop_room.Statement.{statement}
 use Rattle.steps.proofs.drop_room.Tie as tie
 
 returns : tie.Need-returns
 returns c =
     let words = now (c .before .before .args .words) in
-    let past : length (halvesIn words) ≤ c .before .before .args .room = omega (arith, part-length words 32 21 (omega arith)) in
+    let past : length (halvesIn words) ≤ c .before .before .args .room = omega (arith, part-length words halvesAt roomCount (omega arith)) in
     ((λ times. rw (set-out (halvesIn words) (c .before .before .args .room) 0 past)), search needs)
 
 set-half-requires : tie.Need-set-half-requires

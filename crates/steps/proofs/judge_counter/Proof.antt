@@ -8,6 +8,7 @@ use borrow.Author.Tests.{ltb-true}
 use Rattle.lists.proofs.Tests.{and-right}
 use Rattle.lists.proofs.Laying.{laid-turn, laid-length}
 use Rattle.events.specs.Events.{numbersOf}
+use Rattle.events.specs.Room.{recordWidth}
 use Rattle.header.specs.Header.{pidOf}
 use Rattle.header.proofs.Payload.{counter-small}
 use Rattle.arrays.specs.Lent.{coreIn}
@@ -64,7 +65,7 @@ returns c =
     let said = rw (f .pid) at (c .before .before .before .before .before .before .before .before .before .before .before .before .judge-continuity .ensures) in
     let dropped = c .before .before .drop-room .ensures in
     let more = rw (f .pid) at (c .before .before .before .before .before .before .judge-scrambled .ensures .0 times) in
-    let w = laid-turn numbersOf 4 (λ e. refl) _ _ _ _ _ _ _ _ (said .0) (said .1) (more .0) (more .1) in
+    let w = laid-turn numbersOf recordWidth (λ e. refl) _ _ _ _ _ _ _ _ (said .0) (said .1) (more .0) (more .1) in
     let same = ap (λ k. held k (now (args .memory))) (rw room at (dropped .0 times)) in (
       rw (f .pid) (done-as (counter-scrambled (args .time) packet (now (args .counters)) core (j .result) verdict (now (args .memory)) (sym (f .scrambled) ∙ c .before .before .before .before .before .before .before .before .before .if1 .taken))
           (done-also _ _ 2 61 _ _ _ _ _ _ _ _ _ (w .0) (w .1) (omega (arith, said .2, c .before .before .before .before .before .before .judge-scrambled .ensures .1)) (done-from same (done-quiet _ _ 61 _ _)))),

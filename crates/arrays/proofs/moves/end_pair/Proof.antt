@@ -5,12 +5,13 @@ use denote.Ref.{now}
 use mathlib.Core.Path.{_≡_, refl, sym, ap, _∙_}
 use mathlib.Core.List.{[], _∷_}
 use Prim.Native.Nat.{ℕ, _+_, _-_, _≤_, _<_}
-use lib.ListN.{length, getD, set}
+use lib.ListN.{getD, set}
 use Rattle.lists.specs.Places.{front}
 use Rattle.lists.proofs.Places.{front-turn, part-sets-behind}
-use Rattle.watches.specs.Tables.{noEntry}
+use Rattle.watches.specs.Tables.{noEntry, fixedCount}
+use Rattle.programmes.specs.Listing.{mostListed}
 use Rattle.calls.specs.Steps.{touched}
-use Rattle.arrays.specs.Lent.{countIn, gapsIn, entriesIn}
+use Rattle.arrays.specs.Lent.{countIn, gapsIn, entriesIn, gapsAt, sincesAt, pidsAt, numbersAt}
 use Rattle.arrays.proofs.Stores.{entry-at, entries-length, since-laid-at}
 use Rattle.arrays.specs.Lent.{LatestKept}
 use Rattle.arrays.proofs.Kept.{latest-same, latest-then, latest-kept}
@@ -62,13 +63,13 @@ loop-again c =
     let words = now (start .args .words) in
     let times = loop .times in
     let f = touched (start .args .number) (start .args .pid) (start .args .time) in
-    let b : loop .i < 16 = omega arith in (
+    let b : loop .i < mostListed = omega arith in (
       omega arith,
       loop .inv .1,
-      latest-then (loop .inv .2) (latest-kept times (6 + loop .i) (c .since-after .result ∷ []) (loop .inv .2 .long) (omega arith)),
-      part-sets-behind times 1 5 (6 + loop .i) (c .since-after .result ∷ []) (omega arith) ∙ loop .inv .3,
+      latest-then (loop .inv .2) (latest-kept times (sincesAt + loop .i) (c .since-after .result ∷ []) (loop .inv .2 .long) (omega arith)),
+      part-sets-behind times gapsAt fixedCount (sincesAt + loop .i) (c .since-after .result ∷ []) (omega arith) ∙ loop .inv .3,
       since-laid-at times words (loop .i) (c .since-after .result) b (omega arith)
-          ∙ ap (λ (s : ℕ). set (entriesIn times words) (loop .i) (record { number = getD words (loop .i) 0; pid = getD words (16 + loop .i) 0; since = s })) (c .since-after .ensures ∙ ap (λ e. f e .since) (c .before .entry-at .ensures))
+          ∙ ap (λ (s : ℕ). set (entriesIn times words) (loop .i) (record { number = getD words (numbersAt + loop .i) 0; pid = getD words (pidsAt + loop .i) 0; since = s })) (c .since-after .ensures ∙ ap (λ e. f e .since) (c .before .entry-at .ensures))
           ∙ ap (λ e. set (entriesIn times words) (loop .i) (f e)) (sym (entry-at times words (loop .i) b))
           ∙ ap (λ l. set l (loop .i) (f (getD l (loop .i) noEntry))) (loop .inv .4)
           ∙ front-turn f (loop .i) (entriesIn (now (start .args .times)) words) noEntry (omega (arith, entries-length (now (start .args .times)) words)),

@@ -8,6 +8,7 @@ use Prim.Native.Nat.{_+_}
 use Rattle.arrays.proofs.Kept.{sync-kept}
 use Rattle.arrays.proofs.moves.set_half.Statement.{statement}
 use Rattle.arrays.proofs.moves.set_half.Tie as tie
+use Rattle.arrays.specs.Lent.{halvesAt}
 
 add-words : tie.Need-add-words
 add-words c = search needs
@@ -22,7 +23,7 @@ same-length : tie.Need-same-length
 same-length c = search needs
 
 returns : tie.Need-returns
-returns c = ((λ times. half-laid times (now (c .args .words)) (c .args .room) (c .args .n) (omega arith)), sync-kept (now (c .args .words)) (32 + c .args .room) (c .args .n ∷ []) (search needs) (omega arith))
+returns c = ((λ times. half-laid times (now (c .args .words)) (c .args .room) (c .args .n) (omega arith)), sync-kept (now (c .args .words)) (halvesAt + c .args .room) (c .args .n ∷ []) (search needs) (omega arith))
 
 pub set-half-spec : {M : Type 1} → statement M
 set-half-spec = tie.close (tie.spec add-words mul-words slice-write-words same-length returns)

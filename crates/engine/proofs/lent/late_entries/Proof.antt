@@ -8,10 +8,11 @@ use borrow.Author.Count.{below-more}
 use lib.ListN.{length, getD, take}
 use Rattle.lists.proofs.Laying.{laid-none, laid-length, laid-turn}
 use Rattle.events.specs.Events.{numbersOf, eventsLaid}
+use Rattle.events.specs.Room.{recordWidth}
 use Rattle.watches.specs.Tables.{noEntry}
-use Rattle.watches.specs.Late.{entriesLate}
-use Rattle.watches.proofs.Late.{entries-turn, entries-none, entries-most}
-use Rattle.arrays.specs.Lent.{countIn, entriesIn}
+use Rattle.watches.specs.Late.{entryRows, rowsLate}
+use Rattle.watches.proofs.Late.{entries-turn, rows-none, entries-most}
+use Rattle.arrays.specs.Lent.{countIn, entriesIn, latestAt}
 use Rattle.arrays.proofs.Stores.{entry-at, entries-length}
 use Rattle.engine.proofs.lent.late_entries.Statement.{statement}
 use Rattle.engine.proofs.lent.late_entries.Tie as tie
@@ -20,8 +21,8 @@ abbrev Inv-loop : tie.InvT-loop
 Inv-loop times words time numbers₀ n latest count m₀ k₀ numbers m k =
     (k ≤ count)
     × (count ≡ countIn words)
-    × (m ≡ n + length (entriesLate (getD times 0 0) time (take k (entriesIn times words))))
-    × (numbers ≡ eventsLaid numbers₀ n (entriesLate (getD times 0 0) time (take k (entriesIn times words))))
+    × (m ≡ n + length (rowsLate (getD times latestAt 0) time (entryRows (take k (entriesIn times words)))))
+    × (numbers ≡ eventsLaid numbers₀ n (rowsLate (getD times latestAt 0) time (entryRows (take k (entriesIn times words)))))
     × ((i : ℕ) → i < k → getD (entriesIn times words) i noEntry .number < 65536)
 
 abbrev μ-loop : tie.MeasureT-loop
@@ -34,7 +35,7 @@ count-in-requires : tie.Need-count-in-requires Inv-loop μ-loop
 count-in-requires c κs = search needs
 
 loop-holds : tie.Need-loop-holds Inv-loop μ-loop
-loop-holds c = (omega arith, c .count-in .ensures, rw (entries-none _ _) (omega arith), rw (entries-none _ _) (sym (laid-none _ _ _ _)), λ i h. absurd (omega arith))
+loop-holds c = (omega arith, c .count-in .ensures, rw (rows-none _ _) (omega arith), rw (rows-none _ _) (sym (laid-none _ _ _ _)), λ i h. absurd (omega arith))
 
 entry-at-requires : tie.Need-entry-at-requires Inv-loop μ-loop
 entry-at-requires c κs = search needs
@@ -46,7 +47,7 @@ late-entry-requires c κs =
     let times = now (start .args .times) in
     let words = now (start .args .words) in
     let same = c .before .entry-at .ensures ∙ sym (entry-at times words (loop .k) (omega arith)) in (
-      omega (arith, entries-most (getD times 0 0) (start .args .time) (loop .k) (entriesIn times words)),
+      omega (arith, entries-most (getD times latestAt 0) (start .args .time) (loop .k) (entriesIn times words)),
       rw (loop .inv .3, laid-length) (start .pre .2),
       rw same (start .pre .4 (loop .k) (omega arith)),
     )
@@ -65,8 +66,8 @@ loop-again c =
     let words = now (start .args .words) in
     let same = c .before .before .before .before .entry-at .ensures ∙ sym (entry-at times words (loop .k) (omega arith)) in
     let late = rw same at (c .before .before .late-entry .ensures) in
-    let w = laid-turn numbersOf 4 (λ e. refl) _ _ _ _ _ _ _ _ (loop .inv .2) (loop .inv .3) (late .0) (late .1) in
-    rw (entries-turn (getD times 0 0) (start .args .time) (loop .k) (entriesIn times words) noEntry (omega (arith, entries-length times words)))
+    let w = laid-turn numbersOf recordWidth (λ e. refl) _ _ _ _ _ _ _ _ (loop .inv .2) (loop .inv .3) (late .0) (late .1) in
+    rw (entries-turn (getD times latestAt 0) (start .args .time) (loop .k) (entriesIn times words) (omega (arith, entries-length times words)))
     (omega arith, loop .inv .1, w .0, w .1, below-more _ _ (loop .inv .4) (late .2))
 
 same-length : tie.Need-same-length Inv-loop μ-loop

@@ -68,7 +68,7 @@ quiet-packet-requires c κs =
     let packet = now (args .packet) in
     let counters = now (args .counters) in
     let right = sizes-right (args .time) packet counters (args .room) (sym (c .before .before .before .before .before .before .before .before .before .before .sizes-refusal .ensures) ∙ c .before .before .before .before .before .before .before .before .before .if1 .left) in
-    ((c .before .before .before .before .before .before .before .before .before .before .before .before .before .before .before .before .time-count .ensures .1, c .before .before .before .before .before .before .before .before .before .before .before .before .before .before .word-count .ensures .1, c .before .before .before .before .before .before .before .before .before .before .before .before .memory-size .ensures .1), (right .packet, c .before .before .before .before .before .before .before .before .read .ensures .0))
+    ((omega (arith, c .before .before .before .before .before .before .before .before .before .before .before .before .before .before .before .before .time-count .ensures .1), omega (arith, c .before .before .before .before .before .before .before .before .before .before .before .before .before .before .word-count .ensures .1), c .before .before .before .before .before .before .before .before .before .before .before .before .memory-size .ensures .1), (right .packet, c .before .before .before .before .before .before .before .before .read .ensures .0))
 
 slice-write-counters : tie.Need-slice-write-counters
 slice-write-counters c =

@@ -9,9 +9,10 @@ use Prim.Native.Nat.{ℕ, _≤_}
 use lib.ListN.{length, take, length-take}
 use Rattle.lists.specs.Places.{part}
 use Rattle.lists.proofs.Places.{part-length}
+use Rattle.sections.specs.Rooms.{roomCount}
 use Rattle.programmes.specs.Places.{noneHalf}
 use Rattle.programmes.proofs.Moves.{halves-same, bytes-same}
-use Rattle.arrays.specs.Lent.{halvesIn}
+use Rattle.arrays.specs.Lent.{halvesIn, halvesAt}
 use Rattle.arrays.proofs.Stores.{halves-laid}
 use Rattle.arrays.proofs.Kept.{sync-kept}
 use Rattle.payloads.proofs.arrivals.keep_sections.Statement.{statement}
@@ -39,7 +40,7 @@ returns c =
     let halves = halvesIn (now (a .words)) in
     let none : noneHalf (part halves 5 16) ≡ true = ap (λ (l : List ℕ). noneHalf (part l 5 16)) (sym ns) ∙ sym (c .before .none-listed .ensures) ∙ c .if1 .taken in
     let most : length old ≤ 16 = omega (arith, length-take (a .old-count) (a .old)) in
-    let long : length halves ≡ 21 = part-length (now (a .words)) 32 21 (omega arith) in
+    let long : length halves ≡ roomCount = part-length (now (a .words)) halvesAt roomCount (omega arith) in
     ((λ times. rw (halves-same old new halves most long none)), sym (bytes-same old new halves most long none (now (a .memory))), search needs)
 
 move-sections-requires : tie.Need-move-sections-requires

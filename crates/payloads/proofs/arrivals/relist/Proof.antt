@@ -12,9 +12,9 @@ use Rattle.programmes.specs.declared.Listed.{Listed}
 use Rattle.programmes.specs.Listing.{listOf}
 use Rattle.programmes.specs.Places.{movedHalves, movedBytes}
 use Rattle.calls.specs.declared.Core.{Core}
-use Rattle.calls.specs.Cores.{listed, withHalf}
+use Rattle.calls.specs.Cores.{listed, withHalf, withList}
 use Rattle.calls.specs.Steps.{arrivedTable, newList, listedBy}
-use Rattle.arrays.specs.Lent.{coreIn, withList}
+use Rattle.arrays.specs.Lent.{coreIn}
 use Rattle.arrays.proofs.Kept.{latest-then, sync-then}
 use Rattle.payloads.proofs.arrivals.relist.Statement.{statement}
 use Rattle.payloads.proofs.arrivals.relist.Tie as tie

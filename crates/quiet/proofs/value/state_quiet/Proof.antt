@@ -23,15 +23,15 @@ returns-2 : tie.Need-returns-2
 unfolding stateQuiet
 returns-2 c = rw (sym (c .before .before .before .sync-quiet .ensures) ∙ not-false _ (c .before .before .if1 .left), sym (c .before .latest-quiet .ensures) ∙ not-true _ (c .if2 .taken))
 
-slice-aggregate-rooms-quiet : tie.Need-slice-aggregate-rooms-quiet
-slice-aggregate-rooms-quiet c = search needs
+slice-aggregate-rest-quiet : tie.Need-slice-aggregate-rest-quiet
+slice-aggregate-rest-quiet c = search needs
 
-rooms-quiet-requires : tie.Need-rooms-quiet-requires
-rooms-quiet-requires c κs = search needs
+rest-quiet-requires : tie.Need-rest-quiet-requires
+rest-quiet-requires c κs = search needs
 
 returns-3 : tie.Need-returns-3
 unfolding stateQuiet
-returns-3 c = rw (sym (c .before .before .before .before .before .before .before .before .sync-quiet .ensures) ∙ not-false _ (c .before .before .before .before .before .before .before .if1 .left), sym (c .before .before .before .before .before .before .latest-quiet .ensures) ∙ not-false _ (c .before .before .before .before .before .if2 .left), sym (c .before .rooms-quiet .ensures) ∙ not-true _ (c .if3 .taken))
+returns-3 c = rw (sym (c .before .before .before .before .before .before .before .before .sync-quiet .ensures) ∙ not-false _ (c .before .before .before .before .before .before .before .if1 .left), sym (c .before .before .before .before .before .before .latest-quiet .ensures) ∙ not-false _ (c .before .before .before .before .before .if2 .left), sym (c .before .rest-quiet .ensures) ∙ not-true _ (c .if3 .taken))
 
 slice-aggregate-tables-quiet : tie.Need-slice-aggregate-tables-quiet
 slice-aggregate-tables-quiet c = search needs
@@ -41,7 +41,7 @@ tables-quiet-requires c κs = search needs
 
 returns-4 : tie.Need-returns-4
 unfolding stateQuiet
-returns-4 c = rw (sym (c .before .before .before .before .before .before .before .before .before .before .before .sync-quiet .ensures) ∙ not-false _ (c .before .before .before .before .before .before .before .before .before .before .if1 .left), sym (c .before .before .before .before .before .before .before .before .before .latest-quiet .ensures) ∙ not-false _ (c .before .before .before .before .before .before .before .before .if2 .left), sym (c .before .before .before .before .rooms-quiet .ensures) ∙ not-false _ (c .before .before .before .if3 .left), sym (c .before .tables-quiet .ensures) ∙ not-true _ (c .if4 .taken))
+returns-4 c = rw (sym (c .before .before .before .before .before .before .before .before .before .before .before .sync-quiet .ensures) ∙ not-false _ (c .before .before .before .before .before .before .before .before .before .before .if1 .left), sym (c .before .before .before .before .before .before .before .before .before .latest-quiet .ensures) ∙ not-false _ (c .before .before .before .before .before .before .before .before .if2 .left), sym (c .before .before .before .before .rest-quiet .ensures) ∙ not-false _ (c .before .before .before .if3 .left), sym (c .before .tables-quiet .ensures) ∙ not-true _ (c .if4 .taken))
 
 entries-quiet-requires : tie.Need-entries-quiet-requires
 entries-quiet-requires c κs =
@@ -50,7 +50,7 @@ entries-quiet-requires c κs =
 
 returns-5 : tie.Need-returns-5
 unfolding stateQuiet
-returns-5 c = rw (sym (c .before .before .before .before .before .before .before .before .before .before .before .before .before .sync-quiet .ensures) ∙ not-false _ (c .before .before .before .before .before .before .before .before .before .before .before .before .if1 .left), sym (c .before .before .before .before .before .before .before .before .before .before .before .latest-quiet .ensures) ∙ not-false _ (c .before .before .before .before .before .before .before .before .before .before .if2 .left), sym (c .before .before .before .before .before .before .rooms-quiet .ensures) ∙ not-false _ (c .before .before .before .before .before .if3 .left), sym (c .before .before .before .tables-quiet .ensures) ∙ not-false _ (c .before .before .if4 .left)) (c .entries-quiet .ensures)
+returns-5 c = rw (sym (c .before .before .before .before .before .before .before .before .before .before .before .before .before .sync-quiet .ensures) ∙ not-false _ (c .before .before .before .before .before .before .before .before .before .before .before .before .if1 .left), sym (c .before .before .before .before .before .before .before .before .before .before .before .latest-quiet .ensures) ∙ not-false _ (c .before .before .before .before .before .before .before .before .before .before .if2 .left), sym (c .before .before .before .before .before .before .rest-quiet .ensures) ∙ not-false _ (c .before .before .before .before .before .if3 .left), sym (c .before .before .before .tables-quiet .ensures) ∙ not-false _ (c .before .before .if4 .left)) (c .entries-quiet .ensures)
 
 pub state-quiet-spec : {M : Type 1} → statement M
 state-quiet-spec =
@@ -60,8 +60,8 @@ state-quiet-spec =
     returns
     latest-quiet-requires
     returns-2
-    slice-aggregate-rooms-quiet
-    rooms-quiet-requires
+    slice-aggregate-rest-quiet
+    rest-quiet-requires
     returns-3
     slice-aggregate-tables-quiet
     tables-quiet-requires

@@ -6,6 +6,7 @@ use lib.ListN.{replicate}
 use borrow.Author.Tests.{eq-eqb, ne-eqb}
 use Rattle.lists.proofs.Laying.{laid-none, laid-turn}
 use Rattle.events.specs.Events.{numbersOf}
+use Rattle.events.specs.Room.{recordWidth}
 use Rattle.sections.specs.Rooms.{roomCount}
 use Rattle.calls.specs.Cores.{withHalf}
 use Rattle.arrays.proofs.Kept.{told-then}
@@ -49,7 +50,7 @@ returns-2 c =
     let put2 = c .before .before .put2 in
     let put = c .before .before .before .before .before .before .before .before .before .before .before .before .before .before .before .before .before .put in
     let run = eq-eqb _ _ (sym (c .before .before .before .before .before .before .before .before .before .before .before .before .before .sync-run .ensures) ∙ c .before .before .before .before .before .before .before .before .before .before .before .before .if2 .taken) in
-    let w = laid-turn numbersOf 4 (λ e. refl) _ _ _ _ _ _ _ _ (put .ensures .0) (put .ensures .1) (put2 .ensures .0) (put2 .ensures .1) in
+    let w = laid-turn numbersOf recordWidth (λ e. refl) _ _ _ _ _ _ _ _ (put .ensures .0) (put .ensures .1) (put2 .ensures .0) (put2 .ensures .1) in
     ((λ times. rw (c .before .before .before .before .before .before .before .before .before .before .before .before .before .before .before .before .before .before .before .if1 .left, run) (record { core = c .before .before .before .before .before .before .drop-all .ensures .0 times ∙ ap (withHalf (replicate roomCount 0)) (c .before .before .before .before .before .before .before .before .before .before .set-sync2 .ensures .0 times); further = refl; next = w .0; laid = w .1; few = omega arith })), told-then (c .before .before .before .before .before .before .before .before .before .before .set-sync2 .ensures .1) (c .before .before .before .before .before .before .drop-all .ensures .1))
 
 set-sync-requires-3 : tie.Need-set-sync-requires-3

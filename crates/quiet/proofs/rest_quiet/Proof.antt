@@ -1,9 +1,9 @@
--- `quiet::rooms_quiet` meets its contract. Assumes nothing.
+-- `quiet::rest_quiet` meets its contract. Assumes nothing.
 use borrow.Author.Needs.{needs}
 use mathlib.Core.Path.{sym, _∙_}
 use Rattle.checks.proofs.Rooms.{none-rooms}
-use Rattle.quiet.proofs.rooms_quiet.Statement.{statement}
-use Rattle.quiet.proofs.rooms_quiet.Tie as tie
+use Rattle.quiet.proofs.rest_quiet.Statement.{statement}
+use Rattle.quiet.proofs.rest_quiet.Tie as tie
 
 none-half-requires : tie.Need-none-half-requires
 none-half-requires c κs = search needs
@@ -17,5 +17,5 @@ rooms-sound-requires c κs = search needs
 returns-2 : tie.Need-returns-2
 returns-2 c = search needs
 
-pub rooms-quiet-spec : {M : Type 1} → statement M
-rooms-quiet-spec = tie.close (tie.spec none-half-requires returns rooms-sound-requires returns-2)
+pub rest-quiet-spec : {M : Type 1} → statement M
+rest-quiet-spec = tie.close (tie.spec none-half-requires returns rooms-sound-requires returns-2)
