@@ -3,8 +3,12 @@ use crate::packets;
 use crate::show;
 use calls::State;
 use events::Event;
+use events::LEAST_ROOM;
+use sections::MEMORY;
 ghost use mathlib.Core.Path.{_≡_};
 ghost use lib.ListN.{replicate};
+ghost use Rattle.events.specs.Room.{leastRoom};
+ghost use Rattle.sections.specs.Rooms.{memorySize};
 ghost use Rattle.call_lines.specs.Marks.{marked};
 ghost use Rattle.calls.specs.Calls.{packetCall, clockCall};
 
@@ -12,37 +16,37 @@ ghost use Rattle.calls.specs.Calls.{packetCall, clockCall};
 pub struct Carried {
     pub state: State,
     pub counters: [u8; 8192],
-    pub memory: [u8; 24576],
+    pub memory: [u8; MEMORY],
 }
 
 // A state with an unseen table and memory of zeros.
 pub fn from(state: State) -> Carried
-    ensures { λ r. ⌜ r ≡ record { state = state; counters = replicate 8192 0; memory = replicate 24576 0 } ⌝ }
+    ensures { λ r. ⌜ r ≡ record { state = state; counters = replicate 8192 0; memory = replicate memorySize 0 } ⌝ }
 {
     Carried {
         state: state,
         counters: [0u8; 8192],
-        memory: [0u8; 24576],
+        memory: [0u8; MEMORY],
     }
 }
 
 // An event list before a call.
-pub fn marks() -> [Event; 96]
-    ensures { λ r. ⌜ r ≡ replicate 96 marked ⌝ }
+pub fn marks() -> [Event; LEAST_ROOM]
+    ensures { λ r. ⌜ r ≡ replicate leastRoom marked ⌝ }
 {
-    [show::mark(); 96]
+    [show::mark(); LEAST_ROOM]
 }
 
 // A packet call; the half-built length is that of a room.
 pub fn given(name: &[u8], log: Carried, time: u64, p: &[u8], room: usize) -> Carried
-    ensures { λ r. ⌜ (r .state ≡ packetCall (log .state) time (now (p .entry)) (log .counters) (log .memory) 96 .state)
-        × (r .counters ≡ packetCall (log .state) time (now (p .entry)) (log .counters) (log .memory) 96 .counters)
-        × (r .memory ≡ packetCall (log .state) time (now (p .entry)) (log .counters) (log .memory) 96 .memory) ⌝ }
+    ensures { λ r. ⌜ (r .state ≡ packetCall (log .state) time (now (p .entry)) (log .counters) (log .memory) leastRoom .state)
+        × (r .counters ≡ packetCall (log .state) time (now (p .entry)) (log .counters) (log .memory) leastRoom .counters)
+        × (r .memory ≡ packetCall (log .state) time (now (p .entry)) (log .counters) (log .memory) leastRoom .memory) ⌝ }
 {
     let before = log.state;
     let mut counters = log.counters;
     let mut memory = log.memory;
-    let h = byvalue::packet_96(before, time, p, &mut counters, &mut memory, marks());
+    let h = byvalue::packet_least(before, time, p, &mut counters, &mut memory, marks());
     let a = h.answer;
     let list = h.list;
     show::text(name);
@@ -68,13 +72,13 @@ pub fn packet(name: &[u8], log: Carried, time: u64, bytes: &[u8], room: usize) -
 
 // A clock call.
 pub fn clock(name: &[u8], log: Carried, time: u64) -> Carried
-    ensures { λ r. ⌜ (r .state ≡ clockCall (log .state) time (log .memory) 96 .state)
+    ensures { λ r. ⌜ (r .state ≡ clockCall (log .state) time (log .memory) leastRoom .state)
         × (r .counters ≡ log .counters)
         × (r .memory ≡ log .memory) ⌝ }
 {
     let before = log.state;
     let memory = log.memory;
-    let h = byvalue::clock_96(before, time, &memory, marks());
+    let h = byvalue::clock_least(before, time, &memory, marks());
     let a = h.answer;
     let list = h.list;
     show::text(name);
@@ -89,14 +93,14 @@ pub fn clock(name: &[u8], log: Carried, time: u64) -> Carried
 
 // A packet call without a line.
 pub fn silent_packet(log: Carried, time: u64, p: &[u8]) -> Carried
-    ensures { λ r. ⌜ (r .state ≡ packetCall (log .state) time (now (p .entry)) (log .counters) (log .memory) 96 .state)
-        × (r .counters ≡ packetCall (log .state) time (now (p .entry)) (log .counters) (log .memory) 96 .counters)
-        × (r .memory ≡ packetCall (log .state) time (now (p .entry)) (log .counters) (log .memory) 96 .memory) ⌝ }
+    ensures { λ r. ⌜ (r .state ≡ packetCall (log .state) time (now (p .entry)) (log .counters) (log .memory) leastRoom .state)
+        × (r .counters ≡ packetCall (log .state) time (now (p .entry)) (log .counters) (log .memory) leastRoom .counters)
+        × (r .memory ≡ packetCall (log .state) time (now (p .entry)) (log .counters) (log .memory) leastRoom .memory) ⌝ }
 {
     let before = log.state;
     let mut counters = log.counters;
     let mut memory = log.memory;
-    let h = byvalue::packet_96(before, time, p, &mut counters, &mut memory, marks());
+    let h = byvalue::packet_least(before, time, p, &mut counters, &mut memory, marks());
     let a = h.answer;
     let after = a.state;
     Carried {
@@ -108,13 +112,13 @@ pub fn silent_packet(log: Carried, time: u64, p: &[u8]) -> Carried
 
 // A clock call without a line.
 pub fn silent_clock(log: Carried, time: u64) -> Carried
-    ensures { λ r. ⌜ (r .state ≡ clockCall (log .state) time (log .memory) 96 .state)
+    ensures { λ r. ⌜ (r .state ≡ clockCall (log .state) time (log .memory) leastRoom .state)
         × (r .counters ≡ log .counters)
         × (r .memory ≡ log .memory) ⌝ }
 {
     let before = log.state;
     let memory = log.memory;
-    let h = byvalue::clock_96(before, time, &memory, marks());
+    let h = byvalue::clock_least(before, time, &memory, marks());
     let a = h.answer;
     let after = a.state;
     let mut r = log;

@@ -2,7 +2,9 @@
 use calls::Answer;
 use calls::State;
 use events::Event;
+use events::LEAST_ROOM;
 use libc::STDOUT_FILENO;
+use sections::MEMORY;
 ghost use mathlib.Core.Path.{_≡_};
 ghost use Rattle.call_lines.specs.Marks.{marked, isMarked};
 
@@ -59,9 +61,9 @@ fn event(e: Event) {
 }
 
 // The first n records, and whether the others are untouched.
-pub fn events(list: [Event; 96], n: usize) {
+pub fn events(list: [Event; LEAST_ROOM], n: usize) {
     let mut untouched = true;
-    for i in 0..96usize {
+    for i in 0..LEAST_ROOM {
         let e = list[i];
         if i < n {
             event(e);
@@ -124,9 +126,9 @@ pub fn table(s: &[u8]) {
 }
 
 // The same of section memory.
-pub fn memory(m: &[u8; 24576]) {
+pub fn memory(m: &[u8; MEMORY]) {
     let mut h = 1u64;
-    for i in 0..24576usize {
+    for i in 0..MEMORY {
         h = turned(h, m[i]);
     }
     text(b" memory");

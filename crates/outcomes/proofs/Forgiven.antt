@@ -10,18 +10,19 @@ use Rattle.lists.specs.Places.{part}
 use Rattle.lateness.specs.Logs.{Call, clock}
 use Rattle.events.specs.declared.Event.{Event}
 use Rattle.events.specs.Events.{eventAt}
-use Rattle.watches.specs.Late.{tablesLate, entriesLate}
+use Rattle.events.specs.Room.{leastRoom}
+use Rattle.watches.specs.Late.{rowsLate, tableRows}
 use Rattle.header.specs.Header.{headerOf}
 use Rattle.continuity.specs.Continuity.{countedOf}
 use Rattle.sections.specs.Section.{stageOf}
 use Rattle.sections.specs.Building.{fed, built}
 use Rattle.sections.specs.Outcomes.{crcWrong, wholeOutcome}
-use Rattle.programmes.specs.Listing.{isNumber, sinceOf, readOn, listOf}
 use Rattle.programmes.specs.Places.{placeOf, movedFrom, movedPlaces}
-use Rattle.calls.specs.Cores.{fixedRoom, roomFor, lateOf}
+use Rattle.programmes.specs.Listing.{isNumber, entryFor, readOn, listOf}
 use Rattle.calls.specs.Steps.{absorbedAll, sectionsTaken, step1}
 use Rattle.calls.specs.Sound.{timesSound, numberAmong, entriesSound, roomsFrom, stateSound}
-use Rattle.calls.specs.Calls.{leastRoom, packetRefusal, clockRefusal, packetCall, clockCall}
+use Rattle.calls.specs.Calls.{packetRefusal, clockRefusal, packetCall, clockCall}
+use Rattle.calls.specs.Cores.{fixedRoom, roomFor, lateOf}
 use Rattle.demands.specs.Runs.{Given, callOf, afterCall}
 use Rattle.examples.specs.Packets.{entry}
 use Rattle.outcomes.specs.Engines.{Outcome, Meets, eventsIn, next, start, records, patAt, pmtAt, plainAt}
@@ -51,7 +52,7 @@ record Defined : Type 0 where
       ≡ patLate 13_500_001 ∷ pmtLate 13_500_001 ∷ []
 
 defined : Defined
-unfolding packetCall clockCall packetRefusal clockRefusal stateSound timesSound entriesSound numberAmong roomsFrom lateOf tablesLate entriesLate roomFor fixedRoom placeOf step1 sectionsTaken absorbedAll built fed stageOf part wholeOutcome crcWrong crcOf crcFeed crcStep bits bitsOf headerOf countedOf listOf readOn isNumber sinceOf movedFrom movedPlaces
+unfolding packetCall clockCall packetRefusal clockRefusal stateSound timesSound entriesSound numberAmong roomsFrom lateOf rowsLate tableRows roomFor fixedRoom placeOf step1 sectionsTaken absorbedAll built fed stageOf part wholeOutcome crcWrong crcOf crcFeed crcStep bits bitsOf headerOf countedOf listOf readOn isNumber entryFor movedFrom movedPlaces
 defined =
     record {
       discovered = refl;

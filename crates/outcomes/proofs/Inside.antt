@@ -20,6 +20,7 @@ use Rattle.lists.proofs.Tests.{Order, below, from, order}
 use Rattle.octets.proofs.byte_at.Reads as byte-at
 use Rattle.octets.proofs.copy.Reads as copy
 use Rattle.events.proofs.put.Reads as put
+use Rattle.watches.proofs.table_of.Reads as table-of
 use Rattle.watches.proofs.late_tables.Reads as late-tables
 use Rattle.watches.proofs.late_entry.Reads as late-entry
 use Rattle.header.proofs.read.Reads as header-read
@@ -106,6 +107,7 @@ pub record NoSecondOutcomeInside : Type 0 where
   pub octets-byte-at : (κs : _) → OneAnswer (byte-at.Post κs) (λ r. r)
   pub octets-copy : (κs : _) → OneOutcome (copy.Post κs) (λ r. r) (λ s. now (s .0))
   pub events-put : (κs : _) → OneOutcome (put.Post κs) (λ r. r) (λ s. now (s .0))
+  pub watches-table-of : (κs : _) → OneAnswer (table-of.Post κs) (λ r. r)
   pub watches-late-tables : (κs : _) → OneOutcome (late-tables.Post κs) (λ r. r) (λ s. now (s .0))
   pub watches-late-entry : (κs : _) → OneOutcome (late-entry.Post κs) (λ r. r) (λ s. now (s .0))
   pub header-read : (κs : _) → OneAnswer (header-read.Post κs) (λ r. r)
@@ -199,6 +201,7 @@ no-second-outcome-inside =
       octets-byte-at = λ κs a r r′ s s′ p q. both (p .0) (q .0);
       octets-copy = λ κs a r r′ s s′ p q. (refl, both p q);
       events-put = λ κs a r r′ s s′ p q. (both (p .0) (q .0), both (p .1) (q .1));
+      watches-table-of = λ κs a r r′ s s′ p q. both p q;
       watches-late-tables = λ κs a r r′ s s′ p q. (both (p .0) (q .0), both (p .1) (q .1));
       watches-late-entry = λ κs a r r′ s s′ p q. (both (p .0) (q .0), both (p .1) (q .1));
       header-read = λ κs a r r′ s s′ p q. both (p .0) (q .0);

@@ -14,13 +14,13 @@ use Rattle.testdata.proofs.write.Reads as write-contract
 use Rattle.testdata.proofs.write_fixed.Reads as fixed-contract
 use Rattle.testdata.proofs.write_other.Reads as other-contract
 use Rattle.probe.proofs.open.Reads as open-contract
-use Rattle.byvalue.proofs.packet_96.Reads as packet-96
-use Rattle.byvalue.proofs.clock_96.Reads as clock-96
+use Rattle.byvalue.proofs.packet_least.Reads as packet-least
+use Rattle.byvalue.proofs.clock_least.Reads as clock-least
 use Rattle.textlog.proofs.start.Reads as start-contract
 use Rattle.textlog.proofs.begin.Reads as begin-contract
 use Rattle.textlog.proofs.feed.Reads as feed-contract
 use Rattle.textlog.proofs.finish.Reads as finish-contract
-use Rattle.byvalue.specs.declared.Held96.{Held96}
+use Rattle.byvalue.specs.declared.HeldLeast.{HeldLeast}
 use Rattle.textlog.specs.declared.Fed.{Fed}
 use Rattle.textlog.specs.Machine.{Feeding, fedAs}
 use Rattle.outcomes.specs.Once.{OneAnswer, OneOutcome}
@@ -40,8 +40,8 @@ pub record NoSecondOutcome : Type 0 where
   pub probe-open : (κs : _) → OneOutcome (open-contract.Post κs) (λ r. r) (λ s. now (s .1 .0))
   pub probe-packet : (κs : _) → OneOutcome (packetPromise κs) (λ r. r) (packetLeft κs)
   pub probe-clock : (κs : _) → OneOutcome (clockPromise κs) (λ r. r) (clockLeft κs)
-  pub byvalue-packet-96 : (κs : _) → OneOutcome (packet-96.Post κs) (λ r. r) (λ s. now (s .1 .1 .1 .0) ∷ now (s .1 .1 .1 .1 .0) ∷ [])
-  pub byvalue-clock-96 : (κs : _) → OneAnswer (clock-96.Post κs) (λ r. r)
+  pub byvalue-packet-least : (κs : _) → OneOutcome (packet-least.Post κs) (λ r. r) (λ s. now (s .1 .1 .1 .0) ∷ now (s .1 .1 .1 .1 .0) ∷ [])
+  pub byvalue-clock-least : (κs : _) → OneAnswer (clock-least.Post κs) (λ r. r)
   pub textlog-start : (κs : _) → OneAnswer (start-contract.Post κs) (λ r. r)
   pub textlog-begin : (κs : _) → OneOutcome (begin-contract.Post κs) (λ r. r) (λ s. now (s .0))
   -- counters, memory, text, out
@@ -53,8 +53,8 @@ pub record NoSecondOutcome : Type 0 where
 left-alike : (x y : Left) → x .counters ≡ y .counters → x .memory ≡ y .memory → x .events ≡ y .events → x ≡ y
 left-alike x y p q r i = record { counters = p i; memory = q i; events = r i }
 
-held-96-alike : (x y : Held96) → x .answer ≡ y .answer → x .list ≡ y .list → x ≡ y
-held-96-alike x y p q i = record { answer = p i; list = q i }
+held-least-alike : (x y : HeldLeast) → x .answer ≡ y .answer → x .list ≡ y .list → x ≡ y
+held-least-alike x y p q i = record { answer = p i; list = q i }
 
 fed-alike : (x y : Fed) → x .machine ≡ y .machine → x .taken ≡ y .taken → x .written ≡ y .written → x ≡ y
 fed-alike x y p q r i = record { machine = p i; taken = q i; written = r i }
@@ -82,9 +82,9 @@ no-second-outcome =
       probe-open = λ κs a r r′ s s′ p q. (both (p .0) (q .0), both (p .1) (q .1));
       probe-packet = λ κs a r r′ s s′ p q. (both (p .0) (q .0), left-alike (packetLeft κs s) (packetLeft κs s′) (both (p .1) (q .1)) (both (p .2) (q .2)) (both (p .3) (q .3)));
       probe-clock = λ κs a r r′ s s′ p q. (both (p .0) (q .0), both (p .1) (q .1));
-      byvalue-packet-96 = λ κs a r r′ s s′ p q.
-          (held-96-alike r r′ (both (p .0) (q .0)) (both (p .3) (q .3)), places-2 (both (p .1) (q .1)) (both (p .2) (q .2)));
-      byvalue-clock-96 = λ κs a r r′ s s′ p q. held-96-alike r r′ (both (p .0) (q .0)) (both (p .1) (q .1));
+      byvalue-packet-least = λ κs a r r′ s s′ p q.
+          (held-least-alike r r′ (both (p .0) (q .0)) (both (p .3) (q .3)), places-2 (both (p .1) (q .1)) (both (p .2) (q .2)));
+      byvalue-clock-least = λ κs a r r′ s s′ p q. held-least-alike r r′ (both (p .0) (q .0)) (both (p .1) (q .1));
       textlog-start = λ κs a r r′ s s′ p q. both p q;
       textlog-begin = λ κs a r r′ s s′ p q. (both (p .0 .place) (q .0 .place), both (p .0 .bytes) (q .0 .bytes));
       textlog-feed = λ κs a r r′ s s′ p q. fed-parts r r′ _ _ _ _ _ _ _ _ (both (p .0) (q .0));

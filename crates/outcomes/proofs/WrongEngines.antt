@@ -11,21 +11,22 @@ use Rattle.lists.specs.Places.{part}
 use Rattle.lateness.specs.Logs.{Call, clock, packet}
 use Rattle.events.specs.declared.Event.{Event}
 use Rattle.events.specs.Events.{eventAt}
-use Rattle.watches.specs.Late.{tablesLate, entriesLate}
+use Rattle.events.specs.Room.{leastRoom}
+use Rattle.watches.specs.Late.{rowsLate, tableRows}
 use Rattle.header.specs.Header.{pidOf, headerOf}
 use Rattle.continuity.specs.Continuity.{countedOf}
 use Rattle.sections.specs.Section.{stageOf}
 use Rattle.sections.specs.Building.{fed, built}
 use Rattle.sections.specs.Outcomes.{crcWrong, wholeOutcome}
-use Rattle.programmes.specs.Listing.{isNumber, sinceOf, readOn, listOf}
 use Rattle.programmes.specs.Places.{placeOf, movedFrom, movedPlaces}
+use Rattle.programmes.specs.Listing.{isNumber, entryFor, readOn, listOf}
 use Rattle.calls.specs.declared.Answer.{Answer}
 use Rattle.calls.specs.declared.State.{State}
 use Rattle.calls.specs.declared.Core.{Core}
-use Rattle.calls.specs.Cores.{fixedRoom, roomFor, lateOf}
 use Rattle.calls.specs.Steps.{absorbedAll, sectionsTaken, step1}
 use Rattle.calls.specs.Sound.{timesSound, numberAmong, entriesSound, roomsFrom, stateSound}
-use Rattle.calls.specs.Calls.{leastRoom, openAnswer, packetRefusal, clockRefusal, packetCall, clockCall}
+use Rattle.calls.specs.Calls.{openAnswer, packetRefusal, clockRefusal, packetCall, clockCall}
+use Rattle.calls.specs.Cores.{fixedRoom, roomFor, lateOf}
 use Rattle.demands.specs.Runs.{Given, callOf, afterCall}
 use Rattle.demands.specs.Conditions.{PacketWrong, TableWrong, ListShort, TimeAbove, StateWrong, ByteWrong, OrderWrong}
 use Rattle.calls.proofs.Accepted.{packet-number, clock-number}
@@ -54,7 +55,7 @@ record Defined : Type 0 where
   late-again : callOf leastRoom third (clock 27_000_003) .events ≡ eventAt 27_000_002 0x0009 1 0 ∷ []
 
 defined : Defined
-unfolding packetCall clockCall packetRefusal clockRefusal stateSound timesSound entriesSound numberAmong roomsFrom lateOf tablesLate entriesLate roomFor fixedRoom placeOf step1 sectionsTaken absorbedAll built fed stageOf part wholeOutcome crcWrong crcOf crcFeed crcStep bits bitsOf headerOf countedOf listOf readOn isNumber sinceOf movedFrom movedPlaces
+unfolding packetCall clockCall packetRefusal clockRefusal stateSound timesSound entriesSound numberAmong roomsFrom lateOf rowsLate tableRows roomFor fixedRoom placeOf step1 sectionsTaken absorbedAll built fed stageOf part wholeOutcome crcWrong crcOf crcFeed crcStep bits bitsOf headerOf countedOf listOf readOn isNumber entryFor movedFrom movedPlaces
 defined =
     record {
       clock-accepted = refl;

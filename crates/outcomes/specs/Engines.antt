@@ -7,7 +7,7 @@
 --   Refuses o          == it answers another number than 0
 --   eventsIn o         == the events that it says it has written
 --   next g c o         == what the call after it is given
---   start, records     == the opening at time 0, and an event list of 96 records
+--   start, records     == the opening at time 0, and an event list of the least room
 --   patAt t es         == a packet with a good PAT of the entries es
 --   pmtAt t n          == one with a PMT of the programme n, on PID 0x100
 --   plainAt t          == one on PID 0 that begins no section
@@ -19,10 +19,11 @@ use lib.ListN.{length, take, replicate}
 use Rattle.lateness.specs.Logs.{Call, clock, packet}
 use Rattle.events.specs.declared.Event.{Event}
 use Rattle.events.specs.Events.{eventAt}
+use Rattle.events.specs.Room.{leastRoom}
 use Rattle.sections.specs.Rooms.{memorySize}
 use Rattle.calls.specs.declared.Answer.{Answer}
+use Rattle.calls.specs.Calls.{answerOf, handedOver, tableSize}
 use Rattle.calls.specs.Cores.{openedState}
-use Rattle.calls.specs.Calls.{answerOf, handedOver, tableSize, leastRoom}
 use Rattle.demands.specs.Runs.{Given, callOf}
 use Rattle.examples.specs.Packets.{packetOf, patOf, pmtOf, starting}
 use Rattle.probe.specs.Done.{PacketDone, ClockDone}

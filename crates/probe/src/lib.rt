@@ -4,6 +4,8 @@
 use calls::Answer;
 use calls::State;
 use events::Event;
+use events::NUMBERS;
+use sections::MEMORY;
 ghost use mathlib.Core.Path.{_≡_};
 ghost use lib.ListN.{length};
 ghost use Rattle.calls.specs.Calls.{openAnswer, openTable, packetCall, clockCall};
@@ -22,13 +24,13 @@ pub fn packet(
     time: u64,
     packet: &[u8],
     counters: &mut [u8],
-    memory: &mut [u8; 24576],
+    memory: &mut [u8; MEMORY],
     events: &mut [Event],
 ) -> Answer
     ensures { λ r. ⌜ PacketDone (packetCall state time (now (packet .entry)) (now (counters .entry)) (now (memory .entry)) (length (now (events .entry))))
         r (now (counters .exit)) (now (memory .exit)) (now (events .entry)) (now (events .exit)) ⌝ }
 {
-    let mut numbers = [0u64; 384];
+    let mut numbers = [0u64; NUMBERS];
     let room = events.len();
     let out = engine::packet_at(state, time, packet, counters, memory, room, &mut numbers);
     let n = out.n;
@@ -37,10 +39,10 @@ pub fn packet(
 }
 
 // A clock call: the late events. Refusals 3 to 6.
-pub fn clock(state: State, time: u64, memory: &[u8; 24576], events: &mut [Event]) -> Answer
+pub fn clock(state: State, time: u64, memory: &[u8; MEMORY], events: &mut [Event]) -> Answer
     ensures { λ r. ⌜ ClockDone (clockCall state time (now (memory .entry)) (length (now (events .entry)))) r (now (events .entry)) (now (events .exit)) ⌝ }
 {
-    let mut numbers = [0u64; 384];
+    let mut numbers = [0u64; NUMBERS];
     let room = events.len();
     let out = engine::clock_at(state, time, memory, room, &mut numbers);
     let n = out.n;

@@ -5,6 +5,7 @@ use call_lines::show;
 use call_lines::states;
 use calls::Answer;
 use calls::State;
+use sections::MEMORY;
 
 const ABOVE: u64 = 4611686018427387905;
 
@@ -16,12 +17,12 @@ fn numbers(a: Answer) {
 }
 
 // The refusal and the number of events of a packet call on the PID 0x0100 and of a clock call.
-pub fn both_over(name: &[u8], state: State, time: u64, memory: &mut [u8; 24576]) {
+pub fn both_over(name: &[u8], state: State, time: u64, memory: &mut [u8; MEMORY]) {
     let p = packets::filled(b"\x47\x01\x00\x10");
     let mut counters = [0u8; 8192];
     show::text(name);
-    let k = byvalue::clock_96(state, time, memory, run::marks());
-    let h = byvalue::packet_96(state, time, &p, &mut counters, memory, run::marks());
+    let k = byvalue::clock_least(state, time, memory, run::marks());
+    let h = byvalue::packet_least(state, time, &p, &mut counters, memory, run::marks());
     let a = h.answer;
     let b = k.answer;
     show::text(b": packet");
@@ -33,7 +34,7 @@ pub fn both_over(name: &[u8], state: State, time: u64, memory: &mut [u8; 24576])
 
 // The same over memory of zeros.
 pub fn both(name: &[u8], state: State, time: u64) {
-    let mut memory = [0u8; 24576];
+    let mut memory = [0u8; MEMORY];
     both_over(name, state, time, &mut memory);
 }
 

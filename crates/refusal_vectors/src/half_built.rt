@@ -2,20 +2,22 @@
 use crate::forged;
 use call_lines::show;
 use call_lines::states;
-ghost use Prim.Native.Nat.{_<_};
+use sections::MEMORY;
+ghost use Prim.Native.Nat.{_+_, _<_};
+ghost use Rattle.sections.specs.Rooms.{memorySize};
 
-fn lay(m: &mut [u8; 24576], at: usize, b: u8) {
-    if at < 24576 {
+fn lay(m: &mut [u8; MEMORY], at: usize, b: u8) {
+    if at < MEMORY {
         m[at] = b;
     }
 }
 
 // A state whose room holds the first three bytes of a section, half-built up to two and three.
 fn header(name: &[u8], room: usize, at: usize, a: u8, b: u8, c: u8)
-    requires { ⌜ (room < 21) × (at < 24574) ⌝ }
+    requires { ⌜ (room < 21) × (at + 2 < memorySize) ⌝ }
 {
     let s = states::fresh(1000);
-    let mut m = [0u8; 24576];
+    let mut m = [0u8; MEMORY];
     lay(&mut m, at, a);
     lay(&mut m, at + 1, b);
     lay(&mut m, at + 2, c);

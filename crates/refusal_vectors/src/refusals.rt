@@ -5,6 +5,7 @@ use call_lines::run::Carried;
 use call_lines::show;
 use call_lines::states;
 use calls::State;
+use sections::MEMORY;
 
 const ABOVE: u64 = 4611686018427387905;
 
@@ -31,7 +32,7 @@ fn over(state: State) -> Carried {
     Carried {
         state: state,
         counters: [0u8; 8192],
-        memory: [90u8; 24576],
+        memory: [90u8; MEMORY],
     }
 }
 
@@ -39,8 +40,8 @@ fn over(state: State) -> Carried {
 fn short_table(name: &[u8], p: &[u8]) {
     let forged = states::with_sync(sound(), false, 2);
     let mut counters = [0u8; 8191];
-    let mut memory = [90u8; 24576];
-    let h = byvalue::packet_96(forged, ABOVE, p, &mut counters, &mut memory, run::marks());
+    let mut memory = [90u8; MEMORY];
+    let h = byvalue::packet_least(forged, ABOVE, p, &mut counters, &mut memory, run::marks());
     let a = h.answer;
     let list = h.list;
     show::text(name);

@@ -3,14 +3,15 @@ use call_lines::packets;
 use call_lines::run;
 use call_lines::show;
 use call_lines::states;
+use sections::MEMORY;
 
 fn byte(b: u8) {
     let p = packets::filled(b"\x47\x01\x00\x10");
     let mut counters = [0u8; 8192];
-    let mut memory = [0u8; 24576];
+    let mut memory = [0u8; MEMORY];
     counters[256] = b;
     let s = states::fresh(0);
-    let h = byvalue::packet_96(s, 0, &p, &mut counters, &mut memory, run::marks());
+    let h = byvalue::packet_least(s, 0, &p, &mut counters, &mut memory, run::marks());
     let a = h.answer;
     show::text(b"table byte");
     show::number(b as u64);

@@ -4,7 +4,7 @@
 --   OpenDone t counters r .. == an opening at t is what was done: r is its reply, and arrays and counter table are left as it says
 --   PacketDone x r .. == the result x of a packet call is what was done: r is its reply, and arrays, counter table, section memory, numbers and list
 --                        are left as it says; of arrays, numbers and list first as they were, then as they are. The numbers hold the call's events,
---                        four numbers to an event, laid from the first place on, the others as they were
+--                        laid from the first place on, the others as they were
 --   ClockDone x r ..  == the same of a clock call, which writes neither table nor section memory
 use Prim.Native.Nat.{ℕ}
 use mathlib.Core.Path.{_≡_}

@@ -1,8 +1,12 @@
 // The calls as a host makes them: on a state that is lent as two arrays, their events handed over as records. On a refusal
 // nothing that was lent is written, the arrays neither.
 use arrays::Reply;
+use arrays::TIMES;
+use arrays::WORDS;
 use calls::Answer;
 use events::Event;
+use events::NUMBERS;
+use sections::MEMORY;
 ghost use mathlib.Core.Path.{_≡_};
 ghost use lib.ListN.{length};
 ghost use Rattle.arrays.specs.Lent.{stateIn};
@@ -11,7 +15,7 @@ ghost use Rattle.calls.specs.Calls.{packetCall, clockCall};
 ghost use Rattle.songpigeon.specs.Lent.{OpenDone, PacketDone, ClockDone};
 
 // The arrays after an opening: its state, unless it was refused.
-fn lay_answer(a: Answer, times: &mut [u64; 22], words: &mut [u16; 56])
+fn lay_answer(a: Answer, times: &mut [u64; TIMES], words: &mut [u16; WORDS])
     ensures { λ _. ⌜ (now (times .exit) ≡ timesAfter a (now (times .entry))) × (now (words .exit) ≡ wordsAfter a (now (words .entry))) ⌝ }
 {
     let refusal = a.refusal;
@@ -29,8 +33,8 @@ fn lay_answer(a: Answer, times: &mut [u64; 22], words: &mut [u16; 56])
 // and 4.
 #[no_mangle]
 pub extern "C" fn songpigeon_open(
-    times: &mut [u64; 22],
-    words: &mut [u16; 56],
+    times: &mut [u64; TIMES],
+    words: &mut [u16; WORDS],
     time: u64,
     counters: &mut [u8],
 ) -> Reply
@@ -47,13 +51,13 @@ pub extern "C" fn songpigeon_open(
 // A packet call: the late events, then those of steps 1 to 5. Refusals 1 to 6.
 #[no_mangle]
 pub extern "C" fn songpigeon_packet(
-    times: &mut [u64; 22],
-    words: &mut [u16; 56],
+    times: &mut [u64; TIMES],
+    words: &mut [u16; WORDS],
     time: u64,
     packet: &[u8],
     counters: &mut [u8],
-    memory: &mut [u8; 24576],
-    numbers: &mut [u64; 384],
+    memory: &mut [u8; MEMORY],
+    numbers: &mut [u64; NUMBERS],
     events: &mut [Event],
 ) -> Reply
     ensures { λ r. ⌜ PacketDone (packetCall (stateIn (now (times .entry)) (now (words .entry))) time (now (packet .entry)) (now (counters .entry)) (now (memory .entry)) (length (now (events .entry))))
@@ -69,11 +73,11 @@ pub extern "C" fn songpigeon_packet(
 // A clock call: the late events. Refusals 3 to 6.
 #[no_mangle]
 pub extern "C" fn songpigeon_clock(
-    times: &mut [u64; 22],
-    words: &mut [u16; 56],
+    times: &mut [u64; TIMES],
+    words: &mut [u16; WORDS],
     time: u64,
-    memory: &[u8; 24576],
-    numbers: &mut [u64; 384],
+    memory: &[u8; MEMORY],
+    numbers: &mut [u64; NUMBERS],
     events: &mut [Event],
 ) -> Reply
     ensures { λ r. ⌜ ClockDone (clockCall (stateIn (now (times .entry)) (now (words .entry))) time (now (memory .entry)) (length (now (events .entry))))

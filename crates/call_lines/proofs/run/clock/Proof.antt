@@ -7,8 +7,8 @@ use Rattle.call_lines.proofs.run.clock.Tie as tie
 marks-requires : tie.Need-marks-requires
 marks-requires c κs = search needs
 
-clock-96-requires : tie.Need-clock-96-requires
-clock-96-requires c κs = search needs
+clock-least-requires : tie.Need-clock-least-requires
+clock-least-requires c κs = search needs
 
 text-requires : tie.Need-text-requires
 text-requires c κs = search needs
@@ -26,14 +26,14 @@ events-requires : tie.Need-events-requires
 events-requires c κs = search needs
 
 returns : tie.Need-returns
-returns c = (ap (λ a. a .state) (c .before .before .before .before .before .before .before .before .clock-96 .ensures .0), search needs, search needs)
+returns c = (ap (λ a. a .state) (c .before .before .before .before .before .before .before .before .clock-least .ensures .0), search needs, search needs)
 
 pub clock-spec : {M : Type 1} → statement M
 clock-spec =
     tie.close
     (tie.spec
     marks-requires
-    clock-96-requires
+    clock-least-requires
     text-requires
     answer-requires
     slice-aggregate-text

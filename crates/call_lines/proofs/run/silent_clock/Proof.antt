@@ -7,11 +7,11 @@ use Rattle.call_lines.proofs.run.silent_clock.Tie as tie
 marks-requires : tie.Need-marks-requires
 marks-requires c κs = search needs
 
-clock-96-requires : tie.Need-clock-96-requires
-clock-96-requires c κs = search needs
+clock-least-requires : tie.Need-clock-least-requires
+clock-least-requires c κs = search needs
 
 returns : tie.Need-returns
-returns c = (ap (λ a. a .state) (c .before .before .clock-96 .ensures .0), search needs, search needs)
+returns c = (ap (λ a. a .state) (c .before .before .clock-least .ensures .0), search needs, search needs)
 
 pub silent-clock-spec : {M : Type 1} → statement M
-silent-clock-spec = tie.close (tie.spec marks-requires clock-96-requires returns)
+silent-clock-spec = tie.close (tie.spec marks-requires clock-least-requires returns)

@@ -1,14 +1,15 @@
 -- `call_lines::show::memory` meets its contract. Assumes nothing.
 use borrow.Author.Needs.{needs}
 use Prim.Native.Nat.{_-_, _≤_}
+use Rattle.sections.specs.Rooms.{memorySize}
 use Rattle.call_lines.proofs.show.memory.Statement.{statement}
 use Rattle.call_lines.proofs.show.memory.Tie as tie
 
 abbrev Inv-loop : tie.InvT-loop
-Inv-loop m h₀ i₀ t4 h i = i ≤ 24576
+Inv-loop m h₀ i₀ t4 h i = i ≤ memorySize
 
 abbrev μ-loop : tie.MeasureT-loop
-μ-loop m h₀ i₀ t4 h i = 24576 - i
+μ-loop m h₀ i₀ t4 h i = memorySize - i
 
 loop-holds : tie.Need-loop-holds Inv-loop μ-loop
 loop-holds c = search needs
