@@ -46,11 +46,8 @@ pub fn laid(times: &lent::Times, words: &lent::Words) -> State {
     let mut state = State { latest: times[place::LATEST], lost: words[place::LOST] != 0, ..State::default() };
     state.since.copy_from_slice(&times[place::GAPS..place::SINCES]);
     for (k, entry) in state.entries.iter_mut().enumerate() {
-        *entry = Entry {
-            number: words[place::NUMBERS + k],
-            pid: words[place::PIDS + k],
-            since: times[place::SINCES + k],
-        };
+        *entry =
+            Entry { number: words[place::NUMBERS + k], pid: words[place::PIDS + k], since: times[place::SINCES + k] };
     }
     state.half.copy_from_slice(&words[place::HALVES..place::LOST]);
     state.run = u8::try_from(words[place::RUN]).unwrap_or(u8::MAX);
