@@ -43,25 +43,25 @@ pub struct Reply {
 // accepted time, the gap starts of the fixed tables, those of the list's places.
 pub const LATEST: usize = 0;
 
-const GAPS: usize = 1;
+pub const GAPS: usize = 1;
 
-const SINCES: usize = GAPS + FIXED;
+pub const SINCES: usize = GAPS + FIXED;
 
 pub const TIMES: usize = SINCES + MOST_LISTED;
 
 // The other numbers, in the second one: programme numbers and PIDs of the list's places, half-built lengths, lost, run, and
 // the length of the list.
-const NUMBERS: usize = 0;
+pub const NUMBERS: usize = 0;
 
-const PIDS: usize = NUMBERS + MOST_LISTED;
+pub const PIDS: usize = NUMBERS + MOST_LISTED;
 
-const HALVES: usize = PIDS + MOST_LISTED;
+pub const HALVES: usize = PIDS + MOST_LISTED;
 
-const LOST: usize = HALVES + ROOMS;
+pub const LOST: usize = HALVES + ROOMS;
 
-const RUN: usize = LOST + 1;
+pub const RUN: usize = LOST + 1;
 
-const COUNT: usize = RUN + 1;
+pub const COUNT: usize = RUN + 1;
 
 pub const WORDS: usize = COUNT + 1;
 

@@ -8,13 +8,14 @@ use native.Mathlib.Numerals.{add-one}
 use native.Mathlib.Omega.{arith}
 use lib.Dec.{leb, ltb}
 use lib.ListN.{length, getD, take, length-append, length-take}
+use lib.Seq.{take-suc}
 use Rattle.lateness.specs.Gaps.{keep, due}
 use Rattle.events.specs.declared.Event.{Event}
 use Rattle.events.specs.Events.{eventAt}
 use Rattle.events.specs.Faults.{late}
 use Rattle.watches.specs.declared.Entry.{Entry}
 use Rattle.watches.specs.declared.Table.{Table}
-use Rattle.watches.specs.Tables.{latestTime, fixedTables, fixedCount, tableOf, noEntry}
+use Rattle.watches.specs.Tables.{latestTime, pmtTable, fixedTables, fixedCount, tableOf, noEntry}
 use Rattle.watches.specs.Late.{Row, lateEvents, rowLate, rowsLate, tableRow, entryRow, tableRows, entryRows}
 
 -- A WATCH has at most one event for each limit
@@ -38,15 +39,10 @@ late-append (l ∷ ls) ms f i p t s = go (leb p (s + l) && ltb (s + l) t) (late-
     go true h = ap (λ (z : List Event). eventAt (s + l) f late i ∷ z) h
     go false h = h
 
-take-more : {A : Type 0} (l : List A) (k : ℕ) (d : A) → k < length l → take (suc k) l ≡ take k l ++ (getD l k d ∷ [])
-take-more [] k d h = absurd (not-suc-le-zero h)
-take-more (x ∷ l) zero d h = refl
-take-more (x ∷ l) (suc k) d h = ap (λ z. x ∷ z) (take-more l k d (le-of-suc-le-suc h))
-
 pub limits-turn : (ls : List ℕ) (k f i p t s : ℕ) → k < length ls
     → lateEvents (take (k + 1) ls) f i p t s ≡ lateEvents (take k ls) f i p t s ++ lateEvents (getD ls k 0 ∷ []) f i p t s
 limits-turn ls k f i p t s h =
-    rw (add-one k) (ap (λ ms. lateEvents ms f i p t s) (take-more ls k 0 h) ∙ late-append (take k ls) (getD ls k 0 ∷ []) f i p t s)
+    rw (add-one k) (ap (λ ms. lateEvents ms f i p t s) (take-suc ls k 0 h) ∙ late-append (take k ls) (getD ls k 0 ∷ []) f i p t s)
 
 -- WATCHES one after the other
 pub rows-append : (p t : ℕ) (ws vs : List Row) → rowsLate p t (ws ++ vs) ≡ rowsLate p t ws ++ rowsLate p t vs
@@ -59,7 +55,7 @@ pub rows-turn : (p t k : ℕ) (ws : List Row) (d : Row) → k < length ws → ro
 unfolding rowsLate
 rows-turn p t k ws d h =
     rw (add-one k)
-    (ap (rowsLate p t) (take-more ws k d h)
+    (ap (rowsLate p t) (take-suc ws k d h)
     ∙ rows-append p t (take k ws) (getD ws k d ∷ [])
     ∙ ap (λ z. rowsLate p t (take k ws) ++ z) (append-nil (rowLate p t (getD ws k d))))
 
@@ -157,13 +153,13 @@ pub tables-whole : (p t : ℕ) (ss : List ℕ) → length (rowsLate p t (tableRo
 tables-whole p t ss =
     omega (arith, rows-most 1 p t (tableRows fixedTables ss) (fixed-rows-few ss), tables-within fixedTables ss)
 
-pub limits-one : (k : ℕ) → length (tableOf k .limits) ≡ 1
-limits-one zero = refl
-limits-one (suc zero) = refl
-limits-one (suc (suc zero)) = refl
-limits-one (suc (suc (suc zero))) = refl
-limits-one (suc (suc (suc (suc zero)))) = refl
-limits-one (suc (suc (suc (suc (suc k))))) = refl
+few-at : (most : ℕ) (rs : List Table) (d : Table) → FewIn most rs → length (d .limits) ≤ most → (k : ℕ) → length (getD rs k d .limits) ≤ most
+few-at most [] d f h k = h
+few-at most (r ∷ rs) d f h zero = f .0
+few-at most (r ∷ rs) d f h (suc k) = few-at most rs d (f .1) h k
+
+pub limits-few : (k : ℕ) → length (tableOf k .limits) ≤ 1
+limits-few = few-at 1 fixedTables pmtTable fixed-few (omega arith)
 
 -- THE LISTED PROGRAMMES
 pub take-entries : (k : ℕ) (es : List Entry) → entryRows (take k es) ≡ take k (entryRows es)

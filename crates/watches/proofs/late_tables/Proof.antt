@@ -11,7 +11,7 @@ use Rattle.events.specs.Room.{recordWidth}
 use Rattle.events.specs.Events.{numbersOf, eventsLaid}
 use Rattle.watches.specs.Tables.{fixedCount, fixedTables, pmtTable}
 use Rattle.watches.specs.Late.{tableRow, tableRows, rowsLate}
-use Rattle.watches.proofs.Late.{limits-times, limits-one, rows-none, rows-turn, table-at, tables-length, tables-most}
+use Rattle.watches.proofs.Late.{limits-times, limits-few, rows-none, rows-turn, table-at, tables-length, tables-most}
 use Rattle.watches.proofs.late_tables.Statement.{statement}
 use Rattle.watches.proofs.late_tables.Tie as tie
 
@@ -44,7 +44,7 @@ late-row-requires c κs =
     let start = c .before .before .before .before .before .before .before .before .before in
     let loop = c .before .before .before .before .before .before .loop in
     rw (c .before .before .before .before .table-of .ensures) (
-      omega (arith, limits-one (loop .k), tables-most (start .args .p) (start .args .t) (loop .k) (now (start .args .since))),
+      omega (arith, limits-few (loop .k), tables-most (start .args .p) (start .args .t) (loop .k) (now (start .args .since))),
       rw (loop .inv .2, laid-length) (start .pre .1),
       start .pre .3 (loop .k),
       limits-times (loop .k),
