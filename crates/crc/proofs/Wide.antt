@@ -6,7 +6,7 @@ use native.Mathlib.Omega.{arith}
 use lib.Bits.{bitXor, xor-lt, xor-zero-r, xor-shr, xor-mod, xor-shifted, xor-comm}
 use lib.Pow.{pow-mono, shl-lt, mod-pow-add, mod-mod-pow}
 use Rattle.crc.specs.Crc.{polynomial, allOnes, adders, crcStep, crcFeed, bits}
-use Rattle.crc.specs.Wide.{folded, foldedIn, wideStep, registerOf}
+use Rattle.crc.specs.inner.Wide.{folded, foldedIn, wideStep, registerOf}
 use Rattle.crc.proofs.Register.{xor-assoc, xor-swap, step-zero, step-low, step-add, shifted, shifted-lt, shifted-add, shifted-sum, shifted-step, zeros-shifted, feed-shifted, four-zeros}
 
 -- THE REGISTER that 64 digits stand for, by their halves

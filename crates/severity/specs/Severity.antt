@@ -1,14 +1,18 @@
 -- Severity by A/78: document 01, "Severity by A/78", and refusal 7 of "The calls and their numbers".
 --
 --   toa, poa, cm, qos, tnc == the classes, each by its value in a set
---   Row              == a row of the table: TNC above, QOS with TNC above, absence above, the set at absence
---   table            == the rows, down the paper's table; the PAT's first two limits are Table 5.1 of A/78
---   ms               == milliseconds as ticks of 27 MHz
+--   ms n             == n milliseconds as ticks of 27 MHz
+--   table            == the rows, down the paper's table: TNC above, QOS with TNC above, absence above, the set at absence; the PAT's first two
+--                       limits are Table 5.1 of A/78
 --   setFor r gap     == the classes of a gap, as a set
+--   classes          == the classes, worst first
 --   isIn c set       == the class c is in the set
---   numberOf set     == the number of classes in the set
---   worstOf set      == the worst class in the set: the highest, or 0 where there is none
+--   countAmong set cs, classCount set == the number of classes in the set, of those in cs and of all
+--   worstAmong set cs, worstOf set == the worst class in the set: the highest, or 0 where there is none; of those in cs and of all
 --   unlistedKind     == the refusal
+--   answerFor set    == the answer where the classes are this set
+--   refused          == the answer to a kind that is not listed
+--   rowFor kind      == the row of a kind
 --   severityOf kind gap == the whole answer
 use Prim.Native.Nat.{ℕ, _+_, _*_, _/_, _%_}
 use mathlib.Core.Bool.{Bool, cond}
@@ -53,19 +57,18 @@ setFor r gap =
     (cond (ltb (r .qos) gap) (qos + tnc)
     (cond (ltb (r .tnc) gap) tnc 0))
 
--- the classes, worst first
 abbrev pub classes : List ℕ
 classes = toa ∷ poa ∷ cm ∷ qos ∷ tnc ∷ []
 
 abbrev pub isIn : ℕ → ℕ → Bool
 isIn c set = eqb (set / c % 2) 1
 
-abbrev pub numberAmong : ℕ → List ℕ → ℕ
-numberAmong set [] = 0
-numberAmong set (c ∷ cs) = cond (isIn c set) 1 0 + numberAmong set cs
+abbrev pub countAmong : ℕ → List ℕ → ℕ
+countAmong set [] = 0
+countAmong set (c ∷ cs) = cond (isIn c set) 1 0 + countAmong set cs
 
-abbrev pub numberOf : ℕ → ℕ
-numberOf set = numberAmong set classes
+abbrev pub classCount : ℕ → ℕ
+classCount set = countAmong set classes
 
 abbrev pub worstAmong : ℕ → List ℕ → ℕ
 worstAmong set [] = 0
@@ -78,13 +81,13 @@ abbrev pub unlistedKind : ℕ
 unlistedKind = 7
 
 abbrev pub answerFor : ℕ → Verdict
-answerFor set = record { refusal = 0; set = set; number = numberOf set; worst = worstOf set }
+answerFor set = record { refusal = 0; set = set; number = classCount set; worst = worstOf set }
 
 abbrev pub refused : Verdict
 refused = record { refusal = unlistedKind; set = 0; number = 0; worst = 0 }
 
-abbrev pub rowOf : ℕ → Row
-rowOf kind = getD table kind (record { tnc = 0; qos = 0; absence = 0; set = 0 })
+abbrev pub rowFor : ℕ → Row
+rowFor kind = getD table kind (record { tnc = 0; qos = 0; absence = 0; set = 0 })
 
 unfoldable pub severityOf : ℕ → ℕ → Verdict
-severityOf kind gap = cond (ltb kind (length table)) (answerFor (setFor (rowOf kind) gap)) refused
+severityOf kind gap = cond (ltb kind (length table)) (answerFor (setFor (rowFor kind) gap)) refused

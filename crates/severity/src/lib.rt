@@ -2,7 +2,7 @@
 // A/78"; A/78A, clauses 5 and 6).
 ghost use mathlib.Core.Path.{_≡_};
 ghost use Prim.Native.Nat.{_<_};
-ghost use Rattle.severity.specs.Severity.{rowOf, setFor, worstOf, answerFor, severityOf};
+ghost use Rattle.severity.specs.Severity.{rowFor, setFor, worstOf, answerFor, severityOf};
 
 // The answer: the refusal number (0: none), the classes as a set (TOA 16, POA 8, CM 4, QOS 2,
 // TNC 1), how many they are, and the worst one.
@@ -71,7 +71,7 @@ const TABLE: [Row; 6] = [
 
 fn row_of(kind: usize) -> Row
     requires { ⌜ kind < 6 ⌝ }
-    ensures { λ r. ⌜ r ≡ rowOf kind ⌝ }
+    ensures { λ r. ⌜ r ≡ rowFor kind ⌝ }
 {
     TABLE[kind]
 }

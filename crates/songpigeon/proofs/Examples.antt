@@ -7,17 +7,16 @@ use Rattle.lists.specs.Places.{part}
 use Rattle.testdata.specs.declared.Head.{Head}
 use Rattle.testdata.specs.declared.Syntax.{Syntax}
 use Rattle.testdata.specs.declared.Fields.the-variants.{Plain, Generic}
-use Rattle.testdata.specs.declared.Reading.{Reading}
-use Rattle.testdata.specs.declared.Reading.the-variants.{Section}
-use Rattle.testdata.specs.declared.Reading.the-variants as reading
-use Rattle.testdata.specs.declared.Written.{Written}
-use Rattle.testdata.specs.declared.Written.the-variants.{Length, Refused}
-use Rattle.testdata.specs.Descriptors.{rightSize, row, descriptorOf, stepOf}
-use Rattle.testdata.specs.Writer.{writeRefusal, writeAnswer}
+use Rattle.testdata.specs.declared.Fields.{Fields}
+use Rattle.testdata.specs.Told.{Told, refusing, telling}
+use Rattle.testdata.specs.Descriptors.{rightSize, row, standingOf, descriptorTold}
+use Rattle.testdata.specs.Section.{indicatorOf, fieldValues}
+use Rattle.testdata.specs.Reader.{SectionValues, sectionValues}
+use Rattle.testdata.specs.Writer.{writeRefusal, writeTold}
 use Rattle.songpigeon.specs.declared.Found.{Found}
-use Rattle.songpigeon.specs.declared.Laid.{Laid}
+use Rattle.songpigeon.specs.declared.WriteReply.{WriteReply}
 use Rattle.songpigeon.specs.Version.{version}
-use Rattle.songpigeon.specs.Fields.{fieldBytes, fieldsIn, fieldsAfter, placesAfter, bytesAnswer, bytesMemory, laidOf}
+use Rattle.songpigeon.specs.Fields.{fieldBytes, fieldsIn, fieldsAfter, placesAfter, bytesTold, bytesMemory, writeReply}
 use Rattle.songpigeon.specs.Descriptors.{cursorAt, foundOf, valuesAfter}
 
 pub the-version : version ≡ 20000
@@ -31,23 +30,26 @@ abbrev syntax : Syntax
 syntax =
     record { «user_defined» = 4; extension = 5; reserved = 6; version = 7; «current_next» = 8; number = 9; last = 10; «reserved_loop» = 11 }
 
-abbrev read : Reading
-read = Section (Plain head) (record { at = 10; len = 4 }) (record { at = 14; len = 3 })
+abbrev bytesFor : Fields → List ℕ
+bytesFor f = fieldBytes (indicatorOf f) (fieldValues f)
 
-abbrev laid : ℕ → ℕ → Laid
-laid refusal length = record { refusal = refusal; length = length }
+abbrev read : Told SectionValues
+read = telling (sectionValues (Plain head) (record { at = 10; len = 4 }) (record { at = 14; len = 3 }))
+
+abbrev reply : ℕ → ℕ → WriteReply
+reply refusal length = record { refusal = refusal; length = length }
 
 pub record Bytes : Type 0 where
-  pub generic-bytes : fieldBytes (Generic head syntax) ≡ 1 ∷ 1 ∷ 2 ∷ 3 ∷ 4 ∷ 5 ∷ 6 ∷ 7 ∷ 8 ∷ 9 ∷ 10 ∷ 11 ∷ []
-  pub plain-bytes : fieldBytes (Plain head) ≡ 0 ∷ 1 ∷ 2 ∷ 3 ∷ 0 ∷ 0 ∷ 0 ∷ 0 ∷ 0 ∷ 0 ∷ 0 ∷ 0 ∷ []
+  pub generic-bytes : bytesFor (Generic head syntax) ≡ 1 ∷ 1 ∷ 2 ∷ 3 ∷ 4 ∷ 5 ∷ 6 ∷ 7 ∷ 8 ∷ 9 ∷ 10 ∷ 11 ∷ []
+  pub plain-bytes : bytesFor (Plain head) ≡ 0 ∷ 1 ∷ 2 ∷ 3 ∷ 0 ∷ 0 ∷ 0 ∷ 0 ∷ 0 ∷ 0 ∷ 0 ∷ 0 ∷ []
   pub generic-fields : fieldsIn (1 ∷ 1 ∷ 2 ∷ 3 ∷ 4 ∷ 5 ∷ 6 ∷ 7 ∷ 8 ∷ 9 ∷ 10 ∷ 11 ∷ []) ≡ Generic head syntax
   pub plain-fields : fieldsIn (0 ∷ 1 ∷ 2 ∷ 3 ∷ 4 ∷ 5 ∷ 6 ∷ 7 ∷ 8 ∷ 9 ∷ 10 ∷ 11 ∷ []) ≡ Plain head
   pub read-fields : fieldsAfter read [] ≡ 0 ∷ 1 ∷ 2 ∷ 3 ∷ 0 ∷ 0 ∷ 0 ∷ 0 ∷ 0 ∷ 0 ∷ 0 ∷ 0 ∷ []
   pub read-places : placesAfter read [] ≡ 10 ∷ 4 ∷ 14 ∷ 3 ∷ []
-  pub refused-fields : fieldsAfter (reading.Refused 12) (7 ∷ 8 ∷ []) ≡ 7 ∷ 8 ∷ []
-  pub refused-places : placesAfter (reading.Refused 12) (7 ∷ 8 ∷ []) ≡ 7 ∷ 8 ∷ []
-  pub written : laidOf (Length 5) ≡ laid 0 5
-  pub not-written : laidOf (Refused 15) ≡ laid 15 0
+  pub refused-fields : fieldsAfter (refusing 12) (7 ∷ 8 ∷ []) ≡ 7 ∷ 8 ∷ []
+  pub refused-places : placesAfter (refusing 12) (7 ∷ 8 ∷ []) ≡ 7 ∷ 8 ∷ []
+  pub written : writeReply (telling 5) ≡ reply 0 5
+  pub not-written : writeReply (refusing 15) ≡ reply 15 0
 
 pub bytes-told : Bytes
 unfolding fieldsIn
@@ -66,20 +68,20 @@ bytes-told =
     }
 
 -- THE INDICATOR of twelve bytes, for a section without data, and the descriptors lent with it
-abbrev answered : ℕ → List ℕ → ℕ → Written
-answered indicator loop room = bytesAnswer (indicator ∷ 16 ∷ 0 ∷ 7 ∷ 1 ∷ 1 ∷ 3 ∷ 0 ∷ 1 ∷ 0 ∷ 0 ∷ 0 ∷ []) loop [] room
+abbrev answered : ℕ → List ℕ → ℕ → Told ℕ
+answered indicator loop lent = bytesTold (indicator ∷ 16 ∷ 0 ∷ 7 ∷ 1 ∷ 1 ∷ 3 ∷ 0 ∷ 1 ∷ 0 ∷ 0 ∷ 0 ∷ []) loop [] lent
 
 pub record Indicator : Type 0 where
-  pub plain : answered 0 [] 3 ≡ Length 3
-  pub generic : answered 1 [] 14 ≡ Length 14
-  pub wide : answered 2 [] 14 ≡ Refused 13
-  pub widest : answered 255 [] 14 ≡ Refused 13
-  pub wide-before-short : answered 2 [] 0 ≡ Refused 13
-  pub size-before-wide : answered 2 (0x40 ∷ 3 ∷ 0 ∷ 0 ∷ 0 ∷ []) 0 ≡ Refused 14
+  pub plain : answered 0 [] 3 ≡ telling 3
+  pub generic : answered 1 [] 14 ≡ telling 14
+  pub wide : answered 2 [] 14 ≡ refusing 13
+  pub widest : answered 255 [] 14 ≡ refusing 13
+  pub wide-before-short : answered 2 [] 0 ≡ refusing 13
+  pub size-before-wide : answered 2 (0x40 ∷ 3 ∷ 0 ∷ 0 ∷ 0 ∷ []) 0 ≡ refusing 14
   pub place-kept : bytesMemory (2 ∷ []) [] [] (7 ∷ 8 ∷ 9 ∷ []) ≡ 7 ∷ 8 ∷ 9 ∷ []
 
 pub indicator : Indicator
-unfolding bytesAnswer bytesMemory fieldsIn writeAnswer writeRefusal row rightSize
+unfolding bytesTold bytesMemory fieldsIn writeTold writeRefusal row rightSize
 indicator = record { plain = refl; generic = refl; wide = refl; widest = refl; wide-before-short = refl; size-before-wide = refl; place-kept = refl }
 
 -- DESCRIPTORS: one of each fixed size, one of another tag, and the end; behind the end one byte is left over
@@ -93,10 +95,10 @@ bytes =
     ∷ 0x40 ∷ []
 
 abbrev found : ℕ → ℕ → Found
-found at end = foundOf at (stepOf bytes (cursorAt at end))
+found at end = foundOf at (descriptorTold bytes (cursorAt at end))
 
 abbrev values : ℕ → ℕ → List ℕ
-values at end = valuesAfter (stepOf bytes (cursorAt at end)) (9 ∷ 9 ∷ 9 ∷ 9 ∷ 9 ∷ [])
+values at end = valuesAfter (descriptorTold bytes (cursorAt at end)) (9 ∷ 9 ∷ 9 ∷ 9 ∷ 9 ∷ [])
 
 abbrev told : ℕ → ℕ → ℕ → ℕ → ℕ → ℕ → Found
 told refusal kind tag at length next = record { refusal = refusal; kind = kind; tag = tag; at = at; length = length; next = next }
@@ -117,11 +119,11 @@ pub record Descriptors : Type 0 where
   pub past-the-bytes : found 29 31 ≡ told 13 0 0 0 0 29
   pub past-the-end : found 30 29 ≡ told 13 0 0 0 0 30
   pub body-past-the-end : found 28 30 ≡ told 13 0 0 0 0 28
-  pub other-size : foundOf 0 (stepOf (0x40 ∷ 3 ∷ 0 ∷ 0 ∷ 0 ∷ []) (cursorAt 0 5)) ≡ told 14 0 0 0 0 0
+  pub other-size : foundOf 0 (descriptorTold (0x40 ∷ 3 ∷ 0 ∷ 0 ∷ 0 ∷ []) (cursorAt 0 5)) ≡ told 14 0 0 0 0 0
   pub refused-values : values 29 30 ≡ 9 ∷ 9 ∷ 9 ∷ 9 ∷ 9 ∷ []
 
 pub descriptors : Descriptors
-unfolding part stepOf descriptorOf rightSize
+unfolding part descriptorTold standingOf rightSize
 descriptors =
     record {
       elementary = refl;

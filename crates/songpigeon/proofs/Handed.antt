@@ -29,11 +29,11 @@ use denote.Triple.Spec.{tripleOf}
 use denote.Triple.Statement.{Contract}
 use denote.Triple.Walked.{says}
 use Rattle.events.specs.Events.{eventsLaid}
-use Rattle.events.specs.Room.{recordWidth, numberRoom, mostEvents}
+use Rattle.events.specs.Capacity.{recordWidth, numberCapacity, mostEvents}
 use Rattle.events.specs.declared.Event.{Event}
 use Rattle.calls.specs.Calls.{Result, answerOf, handedOver}
-use Rattle.engine.specs.Numbers.{AllFit}
-use Rattle.records.specs.Handing.{handed}
+use Rattle.engine.specs.inner.Numbers.{AllFit}
+use Rattle.records.specs.inner.Handing.{handed}
 use Rattle.records.proofs.ReadBack.{few-enough, handed-laid, length-eventsLaid}
 use Rattle.arrays.specs.declared.Reply.{Reply}
 use Rattle.arrays.specs.Replies.{replyOf}
@@ -44,7 +44,7 @@ abbrev pub laid-in : Result → List ℕ → List ℕ
 laid-in x given = eventsLaid given 0 (x .events)
 
 pub list-told : (x : Result) (r : Reply) (given : List ℕ) (ys zs : List Event) → r ≡ replyOf (answerOf x) → AllFit (x .events) → length (x .events) ≤ mostEvents
-    → length (laid-in x given) ≡ numberRoom → zs ≡ handed (laid-in x given) (r .n) ys → zs ≡ handedOver (x .events) ys
+    → length (laid-in x given) ≡ numberCapacity → zs ≡ handed (laid-in x given) (r .n) ys → zs ≡ handedOver (x .events) ys
 list-told x r given ys zs e fits few long told =
     told
     ∙ ap (λ (d : Reply). handed (laid-in x given) (d .n) ys) e
@@ -64,10 +64,10 @@ module _ {M : Type 1} (𝓤 : URA M) (H : Heap 𝓤) (A : Atoms 𝓤) (mem : Mem
     abbrev pub to-hand : ℕ → Hand .Ghost
     to-hand ν = (((ν ∷ [], (κ, tt)), (fullShare, (q, tt)), tt, hand-args, (sliceVal (nums .ptr) (length (nums .now)) ∷ [], (vint w64 (r .n) ∷ [], (sliceVal (ys .ptr) (length (ys .now)) ∷ [], tt)))), tt)
 
-    pub goes-hand : Given 𝓤 H A → (ℓ : Lifetime) (ν : ℕ) (x : Result) → r ≡ replyOf (answerOf x) → r .n < 2 ^ 64 → length (nums .now) ≡ numberRoom → length (x .events) ≤ mostEvents → length (x .events) ≤ length (ys .now)
+    pub goes-hand : Given 𝓤 H A → (ℓ : Lifetime) (ν : ℕ) (x : Result) → r ≡ replyOf (answerOf x) → r .n < 2 ^ 64 → length (nums .now) ≡ numberCapacity → length (x .events) ≤ mostEvents → length (x .events) ≤ length (ys .now)
         → ent 𝓤 (sep 𝓤 (sep 𝓤 (A .lft (ν ∷ []) fullShare) (sep 𝓤 (A .lft κ q) (sem 𝓤 H A ftrue))) (sep 𝓤 (sem 𝓤 H A (ShrSlice (named 0) (ν ∷ []) u64 .own nums (sliceVal (nums .ptr) (length (nums .now)) ∷ []))) (sem 𝓤 H A (MutSlice ℓ κ MEvent.the-row .own ys (sliceVal (ys .ptr) (length (ys .now)) ∷ [])))))
         (Hand .pre (to-hand ν))
-    goes-hand W ℓ ν x e fits long few room =
+    goes-hand W ℓ ν x e fits long few capacity =
         qed W ((‵ (flft (ν ∷ []) fullShare) ⊛ ‵ (flft κ q) ⊛ ‵ ftrue) ∷ ‵ (ShrSlice (named 0) (ν ∷ []) u64 .own nums (sliceVal (nums .ptr) (length (nums .now)) ∷ [])) ∷ ‵ (MutSlice ℓ κ MEvent.the-row .own ys (sliceVal (ys .ptr) (length (ys .now)) ∷ [])) ∷ []) ∵
-        says ! (subst (λ (d : Reply). d .n ≤ length (ys .now)) (sym e) room, subst (λ (m : ℕ). r .n * recordWidth ≤ m) (sym long) (subst (λ (d : Reply). d .n * recordWidth ≤ numberRoom) (sym e) (few-enough (length (x .events)) few))) $ frame ! $
+        says ! (subst (λ (d : Reply). d .n ≤ length (ys .now)) (sym e) capacity, subst (λ (m : ℕ). r .n * recordWidth ≤ m) (sym long) (subst (λ (d : Reply). d .n * recordWidth ≤ numberCapacity) (sym e) (few-enough (length (x .events)) few))) $ frame ! $
         nothing ! $ move ! (2 ∷ 0 ∷ []) $ fjoin ! $ owned ! usize (Is usize) (uint-makes 𝓤 H A W w64) (r .n) _ (refl, fits) $ fjoin ! $ move ! (1 ∷ 0 ∷ []) $ fjoin ! $ done !

@@ -18,17 +18,17 @@ use Rattle.arrays.specs.Replies.{timesAfter, wordsAfter}
 
 -- A REFUSED CALL hands back the state it was given
 module _ (s : State) (t : ℕ) where
-  packet-same : (p c m : List ℕ) (room : ℕ) → (packetCall s t p c m room .refusal ≡ 0 → ⊥) → packetCall s t p c m room .state ≡ s
-  packet-same p c m room refused =
-      zero-or (packetRefusal s t p c m room) _
-      (λ e. absurd (refused (ap (λ (x : Result). x .refusal) (packet-call-accepted s t p c m room e))))
-      (λ e. ap (λ (x : Result). x .state) (packet-call-refused s t p c m room e))
+  packet-same : (p c m : List ℕ) (capacity : ℕ) → (packetCall s t p c m capacity .refusal ≡ 0 → ⊥) → packetCall s t p c m capacity .state ≡ s
+  packet-same p c m capacity refused =
+      zero-or (packetRefusal s t p c m capacity) _
+      (λ e. absurd (refused (ap (λ (x : Result). x .refusal) (packet-call-accepted s t p c m capacity e))))
+      (λ e. ap (λ (x : Result). x .state) (packet-call-refused s t p c m capacity e))
 
-  clock-same : (m : List ℕ) (room : ℕ) → (clockCall s t m room .refusal ≡ 0 → ⊥) → clockCall s t m room .state ≡ s
-  clock-same m room refused =
-      zero-or (clockRefusal s t m room) _
-      (λ e. absurd (refused (ap (λ (x : Result). x .refusal) (clock-call-accepted s t m room e))))
-      (λ e. ap (λ (x : Result). x .state) (clock-call-refused s t m room e))
+  clock-same : (m : List ℕ) (capacity : ℕ) → (clockCall s t m capacity .refusal ≡ 0 → ⊥) → clockCall s t m capacity .state ≡ s
+  clock-same m capacity refused =
+      zero-or (clockRefusal s t m capacity) _
+      (λ e. absurd (refused (ap (λ (x : Result). x .refusal) (clock-call-accepted s t m capacity e))))
+      (λ e. ap (λ (x : Result). x .state) (clock-call-refused s t m capacity e))
 
 joins : (a : Answer) (times words : List ℕ) → Shaped (a .state) → ((a .refusal ≡ 0 → ⊥) → a .state ≡ stateIn times words)
     → stateIn (timesAfter a times) (wordsAfter a words) ≡ a .state
@@ -51,12 +51,12 @@ module _ (times words : List ℕ) (z : Shaped (stateIn times words)) where
   abbrev given-state : State
   given-state = stateIn times words
 
-  pub packet-joins : (t : ℕ) (p c m : List ℕ) (room : ℕ) → let x = packetCall given-state t p c m room in
+  pub packet-joins : (t : ℕ) (p c m : List ℕ) (capacity : ℕ) → let x = packetCall given-state t p c m capacity in
       stateIn (timesAfter (answerOf x) times) (wordsAfter (answerOf x) words) ≡ x .state
-  packet-joins t p c m room =
-      joins (answerOf (packetCall given-state t p c m room)) times words (packet-shaped given-state z t p c m room) (packet-same given-state t p c m room)
+  packet-joins t p c m capacity =
+      joins (answerOf (packetCall given-state t p c m capacity)) times words (packet-shaped given-state z t p c m capacity) (packet-same given-state t p c m capacity)
 
-  pub clock-joins : (t : ℕ) (m : List ℕ) (room : ℕ) → let x = clockCall given-state t m room in
+  pub clock-joins : (t : ℕ) (m : List ℕ) (capacity : ℕ) → let x = clockCall given-state t m capacity in
       stateIn (timesAfter (answerOf x) times) (wordsAfter (answerOf x) words) ≡ x .state
-  clock-joins t m room =
-      joins (answerOf (clockCall given-state t m room)) times words (clock-shaped given-state z t m room) (clock-same given-state t m room)
+  clock-joins t m capacity =
+      joins (answerOf (clockCall given-state t m capacity)) times words (clock-shaped given-state z t m capacity) (clock-same given-state t m capacity)

@@ -3,19 +3,18 @@
 --
 --   cursorAt at end  == the cursor at a place, among descriptors that end at another
 --   noMore, ofFixed, ofOther == the kinds: nothing more, or a refusal; a descriptor of fixed size; one of another tag
---   foundOf at x     == what a host is told of the step x from the place at, by its case: another one's body by its place; the next place, which stays
+--   standingFound at v == what a host is told of what stands at the place at, by its case: another one's body by its place; the next place, which stays
 --                       where there is no descriptor
---   valuesOf d       == the numbers of a descriptor of fixed size, by its case, in the order of its table, and behind them 0
---   valuesAfter x l  == the five lent numbers after the step x: as they were where it brought no descriptor of fixed size
+--   foundOf at x     == the same of the answer x: on a refusal its number
+--   standingValues l v == five numbers: those of a descriptor of fixed size, in the order of its table, and behind them 0; else l
+--   valuesAfter x l  == the five lent numbers after the answer x: as they were where it brought no descriptor of fixed size
 use Prim.Native.Nat.{ℕ}
-use mathlib.Core.List.{List, [], _∷_}
+use mathlib.Core.List.{List}
 use Rattle.testdata.specs.declared.Cursor.{Cursor}
-use Rattle.testdata.specs.declared.Fixed.{Fixed}
-use Rattle.testdata.specs.declared.Fixed.the-variants.{ElementaryId, Gps, ReducedPcr, Program}
-use Rattle.testdata.specs.declared.Step.{Step}
-use Rattle.testdata.specs.declared.Step.the-variants.{Known, Other, End, Refused}
-use Rattle.testdata.specs.Descriptors.{tagOf}
+use Rattle.testdata.specs.Told.{Told, afterTold}
+use Rattle.testdata.specs.Descriptors.{Standing, ofFixedSize, ofOtherTag, atEnd}
 use Rattle.songpigeon.specs.declared.Found.{Found}
+use Rattle.songpigeon.specs.Fields.{padded}
 
 abbrev pub cursorAt : ℕ → ℕ → Cursor
 cursorAt at end = record { at = at; end = end }
@@ -29,20 +28,18 @@ ofFixed = 1
 abbrev pub ofOther : ℕ
 ofOther = 2
 
-abbrev pub foundOf : ℕ → Step → Found
-foundOf at (Known d c) = record { refusal = 0; kind = ofFixed; tag = tagOf d; at = 0; length = 0; next = c .at }
-foundOf at (Other tag body c) = record { refusal = 0; kind = ofOther; tag = tag; at = body .at; length = body .len; next = c .at }
-foundOf at End = record { refusal = 0; kind = noMore; tag = 0; at = 0; length = 0; next = at }
-foundOf at (Refused n) = record { refusal = n; kind = noMore; tag = 0; at = 0; length = 0; next = at }
+abbrev pub standingFound : ℕ → Standing → Found
+standingFound at (ofFixedSize tag values next) = record { refusal = 0; kind = ofFixed; tag = tag; at = 0; length = 0; next = next .at }
+standingFound at (ofOtherTag tag body next) = record { refusal = 0; kind = ofOther; tag = tag; at = body .at; length = body .len; next = next .at }
+standingFound at atEnd = record { refusal = 0; kind = noMore; tag = 0; at = 0; length = 0; next = at }
 
-abbrev pub valuesOf : Fixed → List ℕ
-valuesOf (ElementaryId kind pid) = kind ∷ pid ∷ 0 ∷ 0 ∷ 0 ∷ []
-valuesOf (Gps south latitude west longitude elevation) = south ∷ latitude ∷ west ∷ longitude ∷ elevation ∷ []
-valuesOf (ReducedPcr base) = base ∷ 0 ∷ 0 ∷ 0 ∷ 0 ∷ []
-valuesOf (Program number reserved pid) = number ∷ reserved ∷ pid ∷ 0 ∷ 0 ∷ []
+abbrev pub foundOf : ℕ → Told Standing → Found
+foundOf at x = afterTold x (standingFound at) (record { refusal = x .number; kind = noMore; tag = 0; at = 0; length = 0; next = at })
 
-abbrev pub valuesAfter : Step → List ℕ → List ℕ
-valuesAfter (Known d c) l = valuesOf d
-valuesAfter (Other tag body c) l = l
-valuesAfter End l = l
-valuesAfter (Refused n) l = l
+abbrev pub standingValues : List ℕ → Standing → List ℕ
+standingValues l (ofFixedSize tag values next) = padded 5 values
+standingValues l (ofOtherTag tag body next) = l
+standingValues l atEnd = l
+
+abbrev pub valuesAfter : Told Standing → List ℕ → List ℕ
+valuesAfter x l = afterTold x (standingValues l) l

@@ -1,53 +1,39 @@
 -- The fields of a test data section as a host lends them: document 01, "Test data sections", Table 1 of DVB A046, a byte for each field
 -- (docs/DECISIONS.md, F9).
 --
---   fieldBytes f    == twelve bytes: section_syntax_indicator (0 or 1), table_id, priority, reserved; then, 0 where the indicator is 0, user_defined,
---                      table_id_extension, reserved, version_number, current_next_indicator, section_number, last_section_number, and the four
---                      reserved bits before descriptors_length
---   fieldsIn bs     == the fields that twelve bytes say, where the first of them is 0 or 1
---   indicatorWide bs == it is neither: a number too wide for section_syntax_indicator, which has one bit
---   placeNumbers    == where the descriptors begin, how long they are, and the same of the test data
---   wideAnswer loop == what a writing with such a number answers: 13, and 14 before it
---   bytesAnswer, bytesMemory == what a writing of the fields in twelve bytes answers, and the lent place after it: on a refusal as it was
---   laidOf w        == what a host is told of a writing, by its case
---   fieldsAfter, placesAfter == the lent arrays after a reading: on a refusal as they were
-use Prim.Native.Nat.{ℕ}
+--   padded n l      == the numbers l, and behind them 0 up to n of them
+--   fieldBytes i l  == twelve bytes: section_syntax_indicator i (0 or 1) and the other fields l: table_id, priority, reserved; then, 0 where the indicator
+--                      is 0, user_defined, table_id_extension, reserved, version_number, current_next_indicator, section_number,
+--                      last_section_number, and the four reserved bits before descriptors_length
+--   headIn bs, syntaxIn bs, fieldsIn bs == the fields that twelve bytes say, where the first of them is 0 or 1
+--   placeNumbers d t == where the descriptors begin, how long they are, and the same of the test data
+--   fieldsAfter x l, placesAfter x l == the lent arrays after a reading that tells x: on a refusal as they were
+--   indicatorWide bs == the first byte is neither 0 nor 1: a number too wide for section_syntax_indicator, which has one bit
+--   wideTold loop   == what is told of a writing with such a number: 13, and 14 before it
+--   bytesTold, bytesMemory == what is told of a writing of the fields in twelve bytes, and the lent place after it: on a refusal as it was
+--   writeReply x    == how a host is told it: the number, and the length, 0 on a refusal
+use Prim.Native.Nat.{ℕ, _-_}
 use mathlib.Core.Bool.{Bool, cond, not}
-use mathlib.Core.List.{List, [], _∷_}
+use mathlib.Core.List.{List, [], _∷_, _++_}
 use lib.Dec.{eqb, ltb}
-use lib.ListN.{getD}
+use lib.ListN.{length, getD, replicate}
 use Rattle.testdata.specs.declared.Part.{Part}
 use Rattle.testdata.specs.declared.Head.{Head}
 use Rattle.testdata.specs.declared.Syntax.{Syntax}
 use Rattle.testdata.specs.declared.Fields.{Fields}
 use Rattle.testdata.specs.declared.Fields.the-variants.{Plain, Generic}
-use Rattle.testdata.specs.declared.Reading.{Reading}
-use Rattle.testdata.specs.declared.Reading.the-variants.{Section}
-use Rattle.testdata.specs.declared.Reading.the-variants as reading
-use Rattle.testdata.specs.declared.Written.{Written}
-use Rattle.testdata.specs.declared.Written.the-variants.{Length, Refused}
+use Rattle.testdata.specs.Told.{Told, refusing, afterTold}
 use Rattle.testdata.specs.Numbers.{runsPast, badSize}
 use Rattle.testdata.specs.Descriptors.{sizesRight}
-use Rattle.testdata.specs.Writer.{writeAnswer, writeMemory}
-use Rattle.songpigeon.specs.declared.Laid.{Laid}
+use Rattle.testdata.specs.Reader.{SectionValues}
+use Rattle.testdata.specs.Writer.{writeTold, writeMemory}
+use Rattle.songpigeon.specs.declared.WriteReply.{WriteReply}
 
-abbrev pub headBytes : Head → List ℕ → List ℕ
-headBytes h rest = h .«table_id» ∷ h .priority ∷ h .reserved ∷ rest
+abbrev pub padded : ℕ → List ℕ → List ℕ
+padded n l = l ++ replicate (n - length l) 0
 
-abbrev pub fieldBytes : Fields → List ℕ
-fieldBytes (Plain h) = 0 ∷ headBytes h (0 ∷ 0 ∷ 0 ∷ 0 ∷ 0 ∷ 0 ∷ 0 ∷ 0 ∷ [])
-fieldBytes (Generic h x) =
-    1
-    ∷ headBytes h
-    (x .«user_defined»
-    ∷ x .extension
-    ∷ x .reserved
-    ∷ x .version
-    ∷ x .«current_next»
-    ∷ x .number
-    ∷ x .last
-    ∷ x .«reserved_loop»
-    ∷ [])
+abbrev pub fieldBytes : ℕ → List ℕ → List ℕ
+fieldBytes i l = i ∷ padded 11 l
 
 abbrev pub headIn : List ℕ → Head
 headIn bs = record { «table_id» = getD bs 1 0; priority = getD bs 2 0; reserved = getD bs 3 0 }
@@ -71,27 +57,24 @@ fieldsIn bs = cond (eqb (getD bs 0 0) 0) (Plain (headIn bs)) (Generic (headIn bs
 abbrev pub placeNumbers : Part → Part → List ℕ
 placeNumbers d t = d .at ∷ d .len ∷ t .at ∷ t .len ∷ []
 
-abbrev pub fieldsAfter : Reading → List ℕ → List ℕ
-fieldsAfter (Section f d t) l = fieldBytes f
-fieldsAfter (reading.Refused n) l = l
+abbrev pub fieldsAfter : Told SectionValues → List ℕ → List ℕ
+fieldsAfter x l = afterTold x (λ v. fieldBytes (v .indicator) (v .fields)) l
 
-abbrev pub placesAfter : Reading → List ℕ → List ℕ
-placesAfter (Section f d t) l = placeNumbers d t
-placesAfter (reading.Refused n) l = l
+abbrev pub placesAfter : Told SectionValues → List ℕ → List ℕ
+placesAfter x l = afterTold x (λ v. placeNumbers (v .descriptors) (v .test)) l
 
 -- A WRITING
 abbrev pub indicatorWide : List ℕ → Bool
 indicatorWide bs = ltb 1 (getD bs 0 0)
 
-abbrev pub wideAnswer : List ℕ → Written
-wideAnswer loop = Refused (cond (not (sizesRight loop)) badSize runsPast)
+abbrev pub wideTold : List ℕ → Told ℕ
+wideTold loop = refusing (cond (not (sizesRight loop)) badSize runsPast)
 
-unfoldable pub bytesAnswer : List ℕ → List ℕ → List ℕ → ℕ → Written
-bytesAnswer bs loop test room = cond (indicatorWide bs) (wideAnswer loop) (writeAnswer (fieldsIn bs) loop test room)
+unfoldable pub bytesTold : List ℕ → List ℕ → List ℕ → ℕ → Told ℕ
+bytesTold bs loop test lent = cond (indicatorWide bs) (wideTold loop) (writeTold (fieldsIn bs) loop test lent)
 
 unfoldable pub bytesMemory : List ℕ → List ℕ → List ℕ → List ℕ → List ℕ
 bytesMemory bs loop test place = cond (indicatorWide bs) place (writeMemory (fieldsIn bs) loop test place)
 
-abbrev pub laidOf : Written → Laid
-laidOf (Length n) = record { refusal = 0; length = n }
-laidOf (Refused n) = record { refusal = n; length = 0 }
+abbrev pub writeReply : Told ℕ → WriteReply
+writeReply x = record { refusal = x .number; length = afterTold x (λ n. n) 0 }

@@ -1,16 +1,16 @@
 // Descriptors of test data sections for hosts: what stands at a place among them, and writers of one.
 use crate::Found;
-use crate::Laid;
+use crate::WriteReply;
 use crate::fields;
 use testdata::Cursor;
 use testdata::Fixed;
 use testdata::Step;
 ghost use mathlib.Core.Path.{_≡_};
 ghost use lib.ListN.{length};
-ghost use Rattle.testdata.specs.Descriptors.{stepOf, tagOf};
-ghost use Rattle.testdata.specs.Writer.{fixedAnswer, fixedMemory, otherAnswer, otherMemory};
-ghost use Rattle.songpigeon.specs.Fields.{laidOf};
-ghost use Rattle.songpigeon.specs.Descriptors.{cursorAt, foundOf, valuesOf, valuesAfter};
+ghost use Rattle.testdata.specs.Descriptors.{descriptorTold, tagOf, fixedValues};
+ghost use Rattle.testdata.specs.Writer.{fixedTold, fixedMemory, otherTold, otherMemory};
+ghost use Rattle.songpigeon.specs.Fields.{padded, writeReply};
+ghost use Rattle.songpigeon.specs.Descriptors.{cursorAt, foundOf, valuesAfter};
 
 const NO_MORE: u8 = 0;
 
@@ -42,7 +42,7 @@ fn tag_of(d: Fixed) -> u8
 
 // Its numbers, in the order of its table.
 fn values_of(d: Fixed) -> [u32; 5]
-    ensures { λ r. ⌜ r ≡ valuesOf d ⌝ }
+    ensures { λ r. ⌜ r ≡ padded 5 (fixedValues d) ⌝ }
 {
     match d {
         Fixed::ElementaryId { id_type, pid } => [id_type as u32, pid as u32, 0, 0, 0],
@@ -77,8 +77,8 @@ pub extern "C" fn songpigeon_testdata_descriptor(
     end: usize,
     values: &mut [u32; 5],
 ) -> Found
-    ensures { λ r. ⌜ (r ≡ foundOf at (stepOf (now (bytes .entry)) (cursorAt at end)))
-        × (now (values .exit) ≡ valuesAfter (stepOf (now (bytes .entry)) (cursorAt at end)) (now (values .entry))) ⌝ }
+    ensures { λ r. ⌜ (r ≡ foundOf at (descriptorTold (now (bytes .entry)) (cursorAt at end)))
+        × (now (values .exit) ≡ valuesAfter (descriptorTold (now (bytes .entry)) (cursorAt at end)) (now (values .entry))) ⌝ }
 {
     let step = testdata::descriptor_at(bytes, Cursor { at, end });
     match step {
@@ -122,12 +122,16 @@ pub extern "C" fn songpigeon_testdata_descriptor(
 
 // Writes an elementary_id_descriptor (Table 5): its length. Refusals 13, then 15, and then nothing is written.
 #[no_mangle]
-pub extern "C" fn songpigeon_testdata_elementary_id(id_type: u8, pid: u16, place: &mut [u8]) -> Laid
-    ensures { λ r. ⌜ (r ≡ laidOf (fixedAnswer (Fixed.ElementaryId «id_type» pid) (length (now (place .entry)))))
+pub extern "C" fn songpigeon_testdata_elementary_id(
+    id_type: u8,
+    pid: u16,
+    place: &mut [u8],
+) -> WriteReply
+    ensures { λ r. ⌜ (r ≡ writeReply (fixedTold (Fixed.ElementaryId «id_type» pid) (length (now (place .entry)))))
         × (now (place .exit) ≡ fixedMemory (Fixed.ElementaryId «id_type» pid) (now (place .entry))) ⌝ }
 {
     let written = testdata::write_fixed(Fixed::ElementaryId { id_type, pid }, place);
-    fields::laid_of(written)
+    fields::write_reply(written)
 }
 
 // Writes a GPS_descriptor (Table 14), likewise.
@@ -139,8 +143,8 @@ pub extern "C" fn songpigeon_testdata_gps(
     longitude: u32,
     elevation: u16,
     place: &mut [u8],
-) -> Laid
-    ensures { λ r. ⌜ (r ≡ laidOf (fixedAnswer (Fixed.Gps «north_south» latitude «east_west» longitude elevation) (length (now (place .entry)))))
+) -> WriteReply
+    ensures { λ r. ⌜ (r ≡ writeReply (fixedTold (Fixed.Gps «north_south» latitude «east_west» longitude elevation) (length (now (place .entry)))))
         × (now (place .exit) ≡ fixedMemory (Fixed.Gps «north_south» latitude «east_west» longitude elevation) (now (place .entry))) ⌝ }
 {
     let written = testdata::write_fixed(
@@ -153,17 +157,17 @@ pub extern "C" fn songpigeon_testdata_gps(
         },
         place,
     );
-    fields::laid_of(written)
+    fields::write_reply(written)
 }
 
 // Writes a reduced_PCR_descriptor (Table 15), likewise.
 #[no_mangle]
-pub extern "C" fn songpigeon_testdata_reduced_pcr(base: u32, place: &mut [u8]) -> Laid
-    ensures { λ r. ⌜ (r ≡ laidOf (fixedAnswer (Fixed.ReducedPcr base) (length (now (place .entry)))))
+pub extern "C" fn songpigeon_testdata_reduced_pcr(base: u32, place: &mut [u8]) -> WriteReply
+    ensures { λ r. ⌜ (r ≡ writeReply (fixedTold (Fixed.ReducedPcr base) (length (now (place .entry)))))
         × (now (place .exit) ≡ fixedMemory (Fixed.ReducedPcr base) (now (place .entry))) ⌝ }
 {
     let written = testdata::write_fixed(Fixed::ReducedPcr { base }, place);
-    fields::laid_of(written)
+    fields::write_reply(written)
 }
 
 // Writes a program_descriptor (Table 16), likewise.
@@ -173,8 +177,8 @@ pub extern "C" fn songpigeon_testdata_program(
     reserved: u8,
     pid: u16,
     place: &mut [u8],
-) -> Laid
-    ensures { λ r. ⌜ (r ≡ laidOf (fixedAnswer (Fixed.Program number reserved pid) (length (now (place .entry)))))
+) -> WriteReply
+    ensures { λ r. ⌜ (r ≡ writeReply (fixedTold (Fixed.Program number reserved pid) (length (now (place .entry)))))
         × (now (place .exit) ≡ fixedMemory (Fixed.Program number reserved pid) (now (place .entry))) ⌝ }
 {
     let written = testdata::write_fixed(
@@ -185,16 +189,16 @@ pub extern "C" fn songpigeon_testdata_program(
         },
         place,
     );
-    fields::laid_of(written)
+    fields::write_reply(written)
 }
 
 // Writes a descriptor of any tag with its body as it is: its length. Refusals 14, 13, 15 in this order, and then
 // nothing is written.
 #[no_mangle]
-pub extern "C" fn songpigeon_testdata_other(tag: u8, body: &[u8], place: &mut [u8]) -> Laid
-    ensures { λ r. ⌜ (r ≡ laidOf (otherAnswer tag (now (body .entry)) (length (now (place .entry)))))
+pub extern "C" fn songpigeon_testdata_other(tag: u8, body: &[u8], place: &mut [u8]) -> WriteReply
+    ensures { λ r. ⌜ (r ≡ writeReply (otherTold tag (now (body .entry)) (length (now (place .entry)))))
         × (now (place .exit) ≡ otherMemory tag (now (body .entry)) (now (place .entry))) ⌝ }
 {
     let written = testdata::write_other(tag, body, place);
-    fields::laid_of(written)
+    fields::write_reply(written)
 }

@@ -1,5 +1,5 @@
 // Severity and test data sections for hosts.
-use crate::Laid;
+use crate::WriteReply;
 use severity::Verdict;
 use testdata::Fields;
 use testdata::Head;
@@ -10,8 +10,10 @@ use testdata::Written;
 ghost use mathlib.Core.Path.{_≡_};
 ghost use lib.ListN.{length};
 ghost use Rattle.severity.specs.Severity.{severityOf};
-ghost use Rattle.testdata.specs.Reader.{readOf, refusalOf};
-ghost use Rattle.songpigeon.specs.Fields.{fieldBytes, fieldsIn, placeNumbers, fieldsAfter, placesAfter, laidOf, bytesAnswer, bytesMemory};
+ghost use Rattle.testdata.specs.Section.{indicatorOf, fieldValues};
+ghost use Rattle.testdata.specs.Reader.{readTold};
+ghost use Rattle.testdata.specs.Writer.{writtenSays};
+ghost use Rattle.songpigeon.specs.Fields.{fieldBytes, fieldsIn, placeNumbers, fieldsAfter, placesAfter, writeReply, bytesTold, bytesMemory};
 
 const TOO_WIDE: u8 = 13;
 
@@ -54,7 +56,7 @@ fn fields_in(b: &[u8; 12]) -> Fields
 
 // Twelve bytes that say the fields.
 fn field_bytes(f: Fields) -> [u8; 12]
-    ensures { λ r. ⌜ r ≡ fieldBytes f ⌝ }
+    ensures { λ r. ⌜ r ≡ fieldBytes (indicatorOf f) (fieldValues f) ⌝ }
 {
     match f {
         Fields::Plain(h) => [
@@ -103,9 +105,9 @@ pub extern "C" fn songpigeon_testdata_read(
     fields: &mut [u8; 12],
     places: &mut [u64; 4],
 ) -> u8
-    ensures { λ r. ⌜ (r ≡ refusalOf (readOf (now (section .entry))))
-        × (now (fields .exit) ≡ fieldsAfter (readOf (now (section .entry))) (now (fields .entry)))
-        × (now (places .exit) ≡ placesAfter (readOf (now (section .entry))) (now (places .entry))) ⌝ }
+    ensures { λ r. ⌜ (r ≡ readTold (now (section .entry)) .number)
+        × (now (fields .exit) ≡ fieldsAfter (readTold (now (section .entry))) (now (fields .entry)))
+        × (now (places .exit) ≡ placesAfter (readTold (now (section .entry))) (now (places .entry))) ⌝ }
 {
     let found = testdata::read(section);
     match found {
@@ -122,16 +124,16 @@ pub extern "C" fn songpigeon_testdata_read(
     }
 }
 
-// What a host is told of a writing, by its case.
-pub fn laid_of(written: Written) -> Laid
-    ensures { λ r. ⌜ r ≡ laidOf written ⌝ }
+// How a host is told of a writing.
+pub fn write_reply(written: Written) -> WriteReply
+    ensures { λ r. ⌜ r ≡ writeReply (writtenSays written) ⌝ }
 {
     match written {
-        Written::Length(n) => Laid {
+        Written::Length(n) => WriteReply {
             refusal: 0,
             length: n,
         },
-        Written::Refused(refusal) => Laid { refusal, length: 0 },
+        Written::Refused(refusal) => WriteReply { refusal, length: 0 },
     }
 }
 
@@ -144,24 +146,24 @@ pub extern "C" fn songpigeon_testdata_write(
     descriptors: &[u8],
     data: &[u8],
     place: &mut [u8],
-) -> Laid
-    ensures { λ r. ⌜ (r ≡ laidOf (bytesAnswer (now (fields .entry)) (now (descriptors .entry)) (now («data» .entry)) (length (now (place .entry)))))
+) -> WriteReply
+    ensures { λ r. ⌜ (r ≡ writeReply (bytesTold (now (fields .entry)) (now (descriptors .entry)) (now («data» .entry)) (length (now (place .entry)))))
         × (now (place .exit) ≡ bytesMemory (now (fields .entry)) (now (descriptors .entry)) (now («data» .entry)) (now (place .entry))) ⌝ }
 {
     if 1 < fields[0] {
         let row = testdata::row_of(descriptors);
         if !row.sizes {
-            return Laid {
+            return WriteReply {
                 refusal: BAD_SIZE,
                 length: 0,
             };
         }
-        return Laid {
+        return WriteReply {
             refusal: TOO_WIDE,
             length: 0,
         };
     }
     let f = fields_in(fields);
     let written = testdata::write(f, descriptors, data, place);
-    laid_of(written)
+    write_reply(written)
 }

@@ -12,7 +12,7 @@ ghost use lib.ListN.{length};
 ghost use Rattle.arrays.specs.Lent.{stateIn};
 ghost use Rattle.arrays.specs.Replies.{timesAfter, wordsAfter};
 ghost use Rattle.calls.specs.Calls.{packetCall, clockCall};
-ghost use Rattle.songpigeon.specs.Lent.{OpenDone, PacketDone, ClockDone};
+ghost use Rattle.songpigeon.specs.Lent.{OpenReplied, PacketReplied, ClockReplied};
 
 // The arrays after an opening: its state, unless it was refused.
 fn lay_answer(a: Answer, times: &mut [u64; TIMES], words: &mut [u16; WORDS])
@@ -38,7 +38,7 @@ pub extern "C" fn songpigeon_open(
     time: u64,
     counters: &mut [u8],
 ) -> Reply
-    ensures { λ r. ⌜ OpenDone time (now (counters .entry)) r (now (times .entry)) (now (times .exit)) (now (words .entry)) (now (words .exit)) (now (counters .exit)) ⌝ }
+    ensures { λ r. ⌜ OpenReplied time (now (counters .entry)) r (now (times .entry)) (now (times .exit)) (now (words .entry)) (now (words .exit)) (now (counters .exit)) ⌝ }
 {
     let a = engine::open_at(time, counters);
     lay_answer(a, times, words);
@@ -60,11 +60,20 @@ pub extern "C" fn songpigeon_packet(
     numbers: &mut [u64; NUMBERS],
     events: &mut [Event],
 ) -> Reply
-    ensures { λ r. ⌜ PacketDone (packetCall (stateIn (now (times .entry)) (now (words .entry))) time (now (packet .entry)) (now (counters .entry)) (now (memory .entry)) (length (now (events .entry))))
+    ensures { λ r. ⌜ PacketReplied (packetCall (stateIn (now (times .entry)) (now (words .entry))) time (now (packet .entry)) (now (counters .entry)) (now (memory .entry)) (length (now (events .entry))))
         r (now (times .entry)) (now (times .exit)) (now (words .entry)) (now (words .exit)) (now (counters .exit)) (now (memory .exit)) (now (numbers .entry)) (now (numbers .exit)) (now (events .entry)) (now (events .exit)) ⌝ }
 {
-    let room = events.len();
-    let out = engine::packet_in(times, words, time, packet, counters, memory, room, numbers);
+    let capacity = events.len();
+    let out = engine::packet_in(
+        times,
+        words,
+        time,
+        packet,
+        counters,
+        memory,
+        capacity,
+        numbers,
+    );
     let n = out.n;
     records::hand_over(numbers, n, events);
     out
@@ -80,11 +89,11 @@ pub extern "C" fn songpigeon_clock(
     numbers: &mut [u64; NUMBERS],
     events: &mut [Event],
 ) -> Reply
-    ensures { λ r. ⌜ ClockDone (clockCall (stateIn (now (times .entry)) (now (words .entry))) time (now (memory .entry)) (length (now (events .entry))))
+    ensures { λ r. ⌜ ClockReplied (clockCall (stateIn (now (times .entry)) (now (words .entry))) time (now (memory .entry)) (length (now (events .entry))))
         r (now (times .entry)) (now (times .exit)) (now (words .entry)) (now (words .exit)) (now (numbers .entry)) (now (numbers .exit)) (now (events .entry)) (now (events .exit)) ⌝ }
 {
-    let room = events.len();
-    let out = engine::clock_in(times, words, time, memory, room, numbers);
+    let capacity = events.len();
+    let out = engine::clock_in(times, words, time, memory, capacity, numbers);
     let n = out.n;
     records::hand_over(numbers, n, events);
     out

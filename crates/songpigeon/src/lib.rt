@@ -21,7 +21,7 @@ ghost use Rattle.songpigeon.specs.Version.{version};
 
 // What a host is told of a writing: the number of the refusal, or 0 and the length.
 #[repr(C)]
-pub struct Laid {
+pub struct WriteReply {
     pub refusal: u8,
     pub length: usize,
 }

