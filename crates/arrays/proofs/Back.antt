@@ -16,7 +16,8 @@ use Rattle.programmes.specs.Listing.{mostListed}
 use Rattle.calls.specs.declared.Core.{Core}
 use Rattle.calls.specs.declared.State.{State}
 use Rattle.calls.specs.Cores.{withList}
-use Rattle.arrays.specs.Lent.{lostWord, countWord, lostIn, runIn, entryIn, tabled, timesOf, wordsOf, stateIn, Typed, gapsAt, sincesAt, pidsAt, halvesAt, lostAt, gapsIn, halvesIn, latestAt, coreTimeCount, numbersAt, runAt, countAt, coreWordCount, coreTimes, moreTimes, coreWords, moreWords}
+use Rattle.arrays.specs.Lent.{lostWord, countWord, lostIn, runIn, entryIn, tabled, timesOf, wordsOf, stateIn, gapsAt, sincesAt, pidsAt, halvesAt, lostAt, gapsIn, halvesIn, latestAt, coreTimeCount, numbersAt, runAt, countAt, coreWordCount, coreTimes, moreTimes, coreWords, moreWords}
+use Rattle.arrays.specs.inner.Kept.{Typed}
 use Rattle.arrays.proofs.Packing.{times-length, words-length}
 use Rattle.arrays.proofs.Tabled.{tabled-length, length-map, getD-map}
 

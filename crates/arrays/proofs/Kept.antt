@@ -13,7 +13,8 @@ use Rattle.watches.specs.Tables.{noEntry, fixedCount}
 use Rattle.sections.specs.Rooms.{roomCount}
 use Rattle.programmes.specs.Listing.{mostListed}
 use Rattle.calls.specs.declared.Core.{Core}
-use Rattle.arrays.specs.Lent.{timeCount, wordCount, lostWord, lostIn, runIn, entryIn, coreIn, Sized, LatestKept, SyncKept, Moved, SyncTold, gapsAt, sincesAt, coreTimeCount, pidsAt, halvesAt, lostAt, runAt, countAt, coreWordCount, numbersAt}
+use Rattle.arrays.specs.Lent.{timeCount, wordCount, lostWord, lostIn, runIn, entryIn, coreIn, gapsAt, sincesAt, coreTimeCount, pidsAt, halvesAt, lostAt, runAt, countAt, coreWordCount, numbersAt}
+use Rattle.arrays.specs.inner.Kept.{Sized, LatestKept, SyncKept, Moved, SyncTold}
 use Rattle.arrays.proofs.Tabled.{length-map}
 use Rattle.arrays.proofs.Back.{lost-back, run-back}
 use Rattle.arrays.proofs.Stores.{entry-at}

@@ -10,9 +10,10 @@ use borrow.Author.Tests.{leb-true, leb-false}
 use Rattle.programmes.specs.Listing.{mostListed}
 use Rattle.calls.specs.declared.State.{State}
 use Rattle.calls.specs.Sound.{stateSound, byteSound}
-use Rattle.calls.specs.Calls.{packetWrong, tableWrong, roomWrong, timeWrong, stateWrong, orderWrong, packetRefusal, clockRefusal}
+use Rattle.calls.specs.Calls.{packetWrong, tableWrong, capacityWrong, timeWrong, stateWrong, orderWrong, packetRefusal, clockRefusal}
 use Rattle.calls.proofs.Accepted.{packet-accepted, clock-accepted, sound-parts}
-use Rattle.arrays.specs.Lent.{countWord, timesOf, wordsOf, stateIn, Typed}
+use Rattle.arrays.specs.Lent.{countWord, timesOf, wordsOf, stateIn}
+use Rattle.arrays.specs.inner.Kept.{Typed}
 use Rattle.arrays.proofs.Back.{withCount, packed-back, state-back, count-back}
 
 abbrev pub packed : State → State
@@ -40,23 +41,23 @@ module _ (s : State) (z : Typed s) where
           let word : countWord (s .core .count) ≡ 65535 = rw e in
           ap (λ (n : ℕ). stateSound (counted n) m) word ∙ unsound-long (counted 65535) m (omega arith) ∙ sym (unsound-long s m (omega arith))
 
-  pub packed-packet : (t : ℕ) (p counters m : List ℕ) (room : ℕ) → packetRefusal (packed s) t p counters m room ≡ packetRefusal s t p counters m room
+  pub packed-packet : (t : ℕ) (p counters m : List ℕ) (capacity : ℕ) → packetRefusal (packed s) t p counters m capacity ≡ packetRefusal s t p counters m capacity
   unfolding packetRefusal
-  packed-packet t p counters m room =
-      ap (λ (x : State). packetRefusal x t p counters m room) (packed-back s z)
-      ∙ ap (λ (b : Bool). packetWrong p (tableWrong counters (roomWrong room (timeWrong t (stateWrong (b && byteSound counters p) (orderWrong s t 0)))))) (sound-same m)
+  packed-packet t p counters m capacity =
+      ap (λ (x : State). packetRefusal x t p counters m capacity) (packed-back s z)
+      ∙ ap (λ (b : Bool). packetWrong p (tableWrong counters (capacityWrong capacity (timeWrong t (stateWrong (b && byteSound counters p) (orderWrong s t 0)))))) (sound-same m)
 
-  pub packed-clock : (t : ℕ) (m : List ℕ) (room : ℕ) → clockRefusal (packed s) t m room ≡ clockRefusal s t m room
+  pub packed-clock : (t : ℕ) (m : List ℕ) (capacity : ℕ) → clockRefusal (packed s) t m capacity ≡ clockRefusal s t m capacity
   unfolding clockRefusal
-  packed-clock t m room =
-      ap (λ (x : State). clockRefusal x t m room) (packed-back s z)
-      ∙ ap (λ (b : Bool). roomWrong room (timeWrong t (stateWrong b (orderWrong s t 0)))) (sound-same m)
+  packed-clock t m capacity =
+      ap (λ (x : State). clockRefusal x t m capacity) (packed-back s z)
+      ∙ ap (λ (b : Bool). capacityWrong capacity (timeWrong t (stateWrong b (orderWrong s t 0)))) (sound-same m)
 
   sound-packed : (m : List ℕ) → stateSound s m ≡ true → packed s ≡ s
   sound-packed m e = state-back s (record { typed = z; count = omega (arith, sound-parts s m e .count) })
 
-  pub packet-packed : (t : ℕ) (p counters m : List ℕ) (room : ℕ) → packetRefusal s t p counters m room ≡ 0 → packed s ≡ s
-  packet-packed t p counters m room e = sound-packed m (packet-accepted s t p counters m room e .sound)
+  pub packet-packed : (t : ℕ) (p counters m : List ℕ) (capacity : ℕ) → packetRefusal s t p counters m capacity ≡ 0 → packed s ≡ s
+  packet-packed t p counters m capacity e = sound-packed m (packet-accepted s t p counters m capacity e .sound)
 
-  pub clock-packed : (t : ℕ) (m : List ℕ) (room : ℕ) → clockRefusal s t m room ≡ 0 → packed s ≡ s
-  clock-packed t m room e = sound-packed m (clock-accepted s t m room e .sound)
+  pub clock-packed : (t : ℕ) (m : List ℕ) (capacity : ℕ) → clockRefusal s t m capacity ≡ 0 → packed s ≡ s
+  clock-packed t m capacity e = sound-packed m (clock-accepted s t m capacity e .sound)

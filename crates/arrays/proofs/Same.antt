@@ -17,7 +17,8 @@ use Rattle.watches.specs.Tables.{fixedCount}
 use Rattle.sections.specs.Rooms.{roomCount}
 use Rattle.programmes.specs.Listing.{mostListed}
 use Rattle.calls.specs.declared.State.{State}
-use Rattle.arrays.specs.Lent.{timeCount, wordCount, lostIn, lostWord, runIn, countWord, entryIn, tabled, syncLost, syncRun, countIn, coreIn, timesOf, wordsOf, SyncTold, gapsAt, coreTimeCount, halvesAt, lostAt, runAt, countAt, coreWordCount, latestAt, coreTimes, moreTimes, coreWords, moreWords}
+use Rattle.arrays.specs.Lent.{timeCount, wordCount, lostIn, lostWord, runIn, countWord, entryIn, tabled, syncLost, syncRun, countIn, coreIn, timesOf, wordsOf, gapsAt, coreTimeCount, halvesAt, lostAt, runAt, countAt, coreWordCount, latestAt, coreTimes, moreTimes, coreWords, moreWords}
+use Rattle.arrays.specs.inner.Kept.{SyncTold}
 use Rattle.arrays.proofs.Tabled.{part-tabled}
 use Rattle.arrays.proofs.Back.{lost-back}
 use Rattle.arrays.proofs.Stores.{entries-behind}

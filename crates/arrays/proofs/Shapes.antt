@@ -25,7 +25,8 @@ use Rattle.calls.specs.Sound.{stateSound}
 use Rattle.calls.specs.Calls.{heldOf, packetRefusal, clockRefusal, packetCall, clockCall}
 use Rattle.calls.proofs.Moves.{Moves, packet-moves, sync-moves}
 use Rattle.calls.proofs.Accepted.{sound-parts, packet-accepted, clock-accepted, packet-call-accepted, packet-call-refused, clock-call-accepted, clock-call-refused}
-use Rattle.arrays.specs.Lent.{runIn, stateIn, Sized, Typed, gapsAt, halvesAt, runAt}
+use Rattle.arrays.specs.Lent.{runIn, stateIn, gapsAt, halvesAt, runAt}
+use Rattle.arrays.specs.inner.Kept.{Sized, Typed}
 use Rattle.arrays.proofs.Back.{Shaped}
 use Rattle.arrays.proofs.Stores.{entries-length}
 
@@ -140,27 +141,27 @@ module _ (s : State) (z : Typed s) where
       let f = packet-fit t p counters (heldOf s m) (sound-fit m sound) in
       (f .count, run-few (c .lost) (c .run) (f .run))
 
-  pub accepted-shaped : (t : ℕ) (p counters m : List ℕ) (room : ℕ) → packetRefusal s t p counters m room ≡ 0 → Shaped (packetCall s t p counters m room .state)
-  accepted-shaped t p counters m room e =
-      rw (packet-call-accepted s t p counters m room e)
-      (fit-shaped _ (packet-fit t p counters (heldOf s m) (sound-fit m (packet-accepted s t p counters m room e .sound))))
+  pub accepted-shaped : (t : ℕ) (p counters m : List ℕ) (capacity : ℕ) → packetRefusal s t p counters m capacity ≡ 0 → Shaped (packetCall s t p counters m capacity .state)
+  accepted-shaped t p counters m capacity e =
+      rw (packet-call-accepted s t p counters m capacity e)
+      (fit-shaped _ (packet-fit t p counters (heldOf s m) (sound-fit m (packet-accepted s t p counters m capacity e .sound))))
 
-  pub accepted-clock-shaped : (t : ℕ) (m : List ℕ) (room : ℕ) → clockRefusal s t m room ≡ 0 → Shaped (clockCall s t m room .state)
-  accepted-clock-shaped t m room e =
-      rw (clock-call-accepted s t m room e)
+  pub accepted-clock-shaped : (t : ℕ) (m : List ℕ) (capacity : ℕ) → clockRefusal s t m capacity ≡ 0 → Shaped (clockCall s t m capacity .state)
+  accepted-clock-shaped t m capacity e =
+      rw (clock-call-accepted s t m capacity e)
       (record {
         typed = record { gaps = z .gaps; places = z .places; rooms = z .rooms; run = z .run };
-        count = omega (arith, sound-parts s m (clock-accepted s t m room e .sound) .count);
+        count = omega (arith, sound-parts s m (clock-accepted s t m capacity e .sound) .count);
       })
 
 module _ (s : State) (z : Shaped s) where
-  pub packet-shaped : (t : ℕ) (p counters m : List ℕ) (room : ℕ) → Shaped (packetCall s t p counters m room .state)
-  packet-shaped t p counters m room =
-      zero-or (packetRefusal s t p counters m room) _ (accepted-shaped s (z .typed) t p counters m room) (λ e. rw (packet-call-refused s t p counters m room e) z)
+  pub packet-shaped : (t : ℕ) (p counters m : List ℕ) (capacity : ℕ) → Shaped (packetCall s t p counters m capacity .state)
+  packet-shaped t p counters m capacity =
+      zero-or (packetRefusal s t p counters m capacity) _ (accepted-shaped s (z .typed) t p counters m capacity) (λ e. rw (packet-call-refused s t p counters m capacity e) z)
 
-  pub clock-shaped : (t : ℕ) (m : List ℕ) (room : ℕ) → Shaped (clockCall s t m room .state)
-  clock-shaped t m room =
-      zero-or (clockRefusal s t m room) _ (accepted-clock-shaped s (z .typed) t m room) (λ e. rw (clock-call-refused s t m room e) z)
+  pub clock-shaped : (t : ℕ) (m : List ℕ) (capacity : ℕ) → Shaped (clockCall s t m capacity .state)
+  clock-shaped t m capacity =
+      zero-or (clockRefusal s t m capacity) _ (accepted-clock-shaped s (z .typed) t m capacity) (λ e. rw (clock-call-refused s t m capacity e) z)
 
 pub opened-shaped : (t : ℕ) → Shaped (openedState t)
 opened-shaped t =

@@ -3,25 +3,22 @@
 --   latestAt, gapsAt, sincesAt == where the times of a state stand: the latest accepted time, the gap starts of the fixed tables, those of the entries
 --   numbersAt, pidsAt, halvesAt, lostAt, runAt, countAt == where its other numbers stand: the entries' programme numbers, their PIDs, the half-built
 --                 lengths, lost (0 or 1), run, count
---   coreTimes s, coreWords s == these numbers, in this order; there are coreTimeCount and coreWordCount
+--   coreTimes s, coreWords s == these numbers, in this order
+--   coreTimeCount, coreWordCount == how many there are
 --   moreTimes c, moreWords c == what stands behind them: no number yet. Numbers that are new stand there, and the places before them do not move
---   timesOf s, wordsOf s == the two arrays; they have timeCount and wordCount numbers
+--   timesOf s, wordsOf s == the two arrays
+--   timeCount, wordCount == their lengths
 --   lostWord, countWord == lost as a number; a length of the list above 65,535 is as wrong as that
 --   lostIn w, runIn w == sync is lost where the number is not 0; a run above 255 is as wrong as 255
 --   tabled f k n == f of the n numbers from k on
---   syncLost, syncRun, gapsIn, countIn, entriesIn, halvesIn == the parts of the state that two such arrays hold; listedIn: the listed entries
+--   syncLost, syncRun, gapsIn, countIn, entriesIn, halvesIn == the parts of the state that two such arrays hold
+--   entryIn times words k, listedIn times words == the entry at the place k; the listed entries
 --   coreIn times words, stateIn times words == the state that they hold, without the latest accepted time and with it
---   Sized times words == both are as long as such arrays are
---   LatestKept a b, SyncKept a b == what a core does not tell of the times b, and of the words b, is as it was in a: the latest accepted time; by
---                 which numbers lost and run are told. Moved: both
---   SyncTold words == lost and run are told as wordsOf tells them
---   Typed s    == what a state by value has by its types: the lengths of its arrays, and a run that a byte holds
-use mathlib.Core.Path.{_≡_}
-use Prim.Native.Nat.{ℕ, zero, suc, _+_, _≤_}
+use Prim.Native.Nat.{ℕ, zero, suc, _+_}
 use mathlib.Core.Bool.{Bool, cond, not}
 use mathlib.Core.List.{List, [], _∷_, _++_, map}
 use lib.Dec.{eqb, leb}
-use lib.ListN.{length, getD, take}
+use lib.ListN.{getD, take}
 use Rattle.lists.specs.Places.{part}
 use Rattle.watches.specs.declared.Entry.{Entry}
 use Rattle.watches.specs.Tables.{fixedCount}
@@ -147,32 +144,3 @@ coreIn times words =
 
 unfoldable pub stateIn : List ℕ → List ℕ → State
 stateIn times words = record { latest = getD times latestAt 0; core = coreIn times words }
-
-pub record Sized (times words : List ℕ) : Type 0 where
-  pub long : length times ≡ timeCount
-  pub wide : length words ≡ wordCount
-
--- WHAT A CORE DOES NOT TELL
-pub record LatestKept (a b : List ℕ) : Type 0 where
-  pub long : length b ≡ timeCount
-  pub latest : getD b latestAt 0 ≡ getD a latestAt 0
-
-pub record SyncKept (a b : List ℕ) : Type 0 where
-  pub wide : length b ≡ wordCount
-  pub lost : getD b lostAt 0 ≡ getD a lostAt 0
-  pub run : getD b runAt 0 ≡ getD a runAt 0
-
-pub record Moved (times₀ words₀ times₁ words₁ : List ℕ) : Type 0 where
-  pub times : LatestKept times₀ times₁
-  pub words : SyncKept words₀ words₁
-
-pub record SyncTold (words : List ℕ) : Type 0 where
-  pub wide : length words ≡ wordCount
-  pub lost : getD words lostAt 0 ≡ lostWord (syncLost words)
-  pub run : getD words runAt 0 ≡ syncRun words
-
-pub record Typed (s : State) : Type 0 where
-  pub gaps : length (s .core .since) ≡ fixedCount
-  pub places : length (s .core .entries) ≡ mostListed
-  pub rooms : length (s .core .half) ≡ roomCount
-  pub run : s .core .run ≤ 255

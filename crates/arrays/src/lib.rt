@@ -30,7 +30,8 @@ ghost use lib.Seq.{sets};
 ghost use Rattle.watches.specs.Tables.{fixedCount};
 ghost use Rattle.sections.specs.Rooms.{roomCount};
 ghost use Rattle.programmes.specs.Listing.{mostListed};
-ghost use Rattle.arrays.specs.Lent.{timeCount, wordCount, lostWord, countWord, runIn, gapsIn, halvesIn, entryIn, entriesIn, timesOf, wordsOf, stateIn, Typed, gapsAt, sincesAt, numbersAt, pidsAt, halvesAt, lostAt, coreTimeCount, coreWordCount};
+ghost use Rattle.arrays.specs.Lent.{timeCount, wordCount, lostWord, countWord, runIn, gapsIn, halvesIn, entryIn, entriesIn, timesOf, wordsOf, stateIn, gapsAt, sincesAt, numbersAt, pidsAt, halvesAt, lostAt, coreTimeCount, coreWordCount};
+ghost use Rattle.arrays.specs.inner.Kept.{Typed};
 
 // What a host is told of a call: the refusal number (0: accepted) and the number of events.
 #[repr(C)]

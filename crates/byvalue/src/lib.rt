@@ -3,15 +3,15 @@
 use calls::Answer;
 use calls::State;
 use events::Event;
-use events::LEAST_ROOM;
+use events::LEAST_CAPACITY;
 use sections::MEMORY;
-ghost use Rattle.events.specs.Room.{leastRoom};
+ghost use Rattle.events.specs.Capacity.{leastCapacity};
 ghost use Rattle.calls.specs.Calls.{packetCall, clockCall};
 ghost use Rattle.probe.specs.Done.{PacketDone, ClockDone};
 
 pub struct HeldLeast {
     pub answer: Answer,
-    pub list: [Event; LEAST_ROOM],
+    pub list: [Event; LEAST_CAPACITY],
 }
 
 // A packet call with a list of so many records.
@@ -21,9 +21,9 @@ pub fn packet_least(
     packet: &[u8],
     counters: &mut [u8],
     memory: &mut [u8; MEMORY],
-    list: [Event; LEAST_ROOM],
+    list: [Event; LEAST_CAPACITY],
 ) -> HeldLeast
-    ensures { λ r. ⌜ PacketDone (packetCall state time (now (packet .entry)) (now (counters .entry)) (now (memory .entry)) leastRoom)
+    ensures { λ r. ⌜ PacketDone (packetCall state time (now (packet .entry)) (now (counters .entry)) (now (memory .entry)) leastCapacity)
         (r .answer) (now (counters .exit)) (now (memory .exit)) list (r .list) ⌝ }
 {
     let mut kept = list;
@@ -39,9 +39,9 @@ pub fn clock_least(
     state: State,
     time: u64,
     memory: &[u8; MEMORY],
-    list: [Event; LEAST_ROOM],
+    list: [Event; LEAST_CAPACITY],
 ) -> HeldLeast
-    ensures { λ r. ⌜ ClockDone (clockCall state time (now (memory .entry)) leastRoom) (r .answer) list (r .list) ⌝ }
+    ensures { λ r. ⌜ ClockDone (clockCall state time (now (memory .entry)) leastCapacity) (r .answer) list (r .list) ⌝ }
 {
     let mut kept = list;
     let answer = probe::clock(state, time, memory, &mut kept);

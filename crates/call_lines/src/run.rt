@@ -3,13 +3,13 @@ use crate::packets;
 use crate::show;
 use calls::State;
 use events::Event;
-use events::LEAST_ROOM;
+use events::LEAST_CAPACITY;
 use sections::MEMORY;
 ghost use mathlib.Core.Path.{_≡_};
 ghost use lib.ListN.{replicate};
-ghost use Rattle.events.specs.Room.{leastRoom};
+ghost use Rattle.events.specs.Capacity.{leastCapacity};
 ghost use Rattle.sections.specs.Rooms.{memorySize};
-ghost use Rattle.call_lines.specs.Marks.{marked};
+ghost use Rattle.call_lines.specs.inner.Marks.{marked};
 ghost use Rattle.calls.specs.Calls.{packetCall, clockCall};
 
 // What a log carries from call to call.
@@ -31,17 +31,17 @@ pub fn from(state: State) -> Carried
 }
 
 // An event list before a call.
-pub fn marks() -> [Event; LEAST_ROOM]
-    ensures { λ r. ⌜ r ≡ replicate leastRoom marked ⌝ }
+pub fn marks() -> [Event; LEAST_CAPACITY]
+    ensures { λ r. ⌜ r ≡ replicate leastCapacity marked ⌝ }
 {
-    [show::mark(); LEAST_ROOM]
+    [show::mark(); LEAST_CAPACITY]
 }
 
 // A packet call; the half-built length is that of a room.
 pub fn given(name: &[u8], log: Carried, time: u64, p: &[u8], room: usize) -> Carried
-    ensures { λ r. ⌜ (r .state ≡ packetCall (log .state) time (now (p .entry)) (log .counters) (log .memory) leastRoom .state)
-        × (r .counters ≡ packetCall (log .state) time (now (p .entry)) (log .counters) (log .memory) leastRoom .counters)
-        × (r .memory ≡ packetCall (log .state) time (now (p .entry)) (log .counters) (log .memory) leastRoom .memory) ⌝ }
+    ensures { λ r. ⌜ (r .state ≡ packetCall (log .state) time (now (p .entry)) (log .counters) (log .memory) leastCapacity .state)
+        × (r .counters ≡ packetCall (log .state) time (now (p .entry)) (log .counters) (log .memory) leastCapacity .counters)
+        × (r .memory ≡ packetCall (log .state) time (now (p .entry)) (log .counters) (log .memory) leastCapacity .memory) ⌝ }
 {
     let before = log.state;
     let mut counters = log.counters;
@@ -72,7 +72,7 @@ pub fn packet(name: &[u8], log: Carried, time: u64, bytes: &[u8], room: usize) -
 
 // A clock call.
 pub fn clock(name: &[u8], log: Carried, time: u64) -> Carried
-    ensures { λ r. ⌜ (r .state ≡ clockCall (log .state) time (log .memory) leastRoom .state)
+    ensures { λ r. ⌜ (r .state ≡ clockCall (log .state) time (log .memory) leastCapacity .state)
         × (r .counters ≡ log .counters)
         × (r .memory ≡ log .memory) ⌝ }
 {
@@ -93,9 +93,9 @@ pub fn clock(name: &[u8], log: Carried, time: u64) -> Carried
 
 // A packet call without a line.
 pub fn silent_packet(log: Carried, time: u64, p: &[u8]) -> Carried
-    ensures { λ r. ⌜ (r .state ≡ packetCall (log .state) time (now (p .entry)) (log .counters) (log .memory) leastRoom .state)
-        × (r .counters ≡ packetCall (log .state) time (now (p .entry)) (log .counters) (log .memory) leastRoom .counters)
-        × (r .memory ≡ packetCall (log .state) time (now (p .entry)) (log .counters) (log .memory) leastRoom .memory) ⌝ }
+    ensures { λ r. ⌜ (r .state ≡ packetCall (log .state) time (now (p .entry)) (log .counters) (log .memory) leastCapacity .state)
+        × (r .counters ≡ packetCall (log .state) time (now (p .entry)) (log .counters) (log .memory) leastCapacity .counters)
+        × (r .memory ≡ packetCall (log .state) time (now (p .entry)) (log .counters) (log .memory) leastCapacity .memory) ⌝ }
 {
     let before = log.state;
     let mut counters = log.counters;
@@ -112,7 +112,7 @@ pub fn silent_packet(log: Carried, time: u64, p: &[u8]) -> Carried
 
 // A clock call without a line.
 pub fn silent_clock(log: Carried, time: u64) -> Carried
-    ensures { λ r. ⌜ (r .state ≡ clockCall (log .state) time (log .memory) leastRoom .state)
+    ensures { λ r. ⌜ (r .state ≡ clockCall (log .state) time (log .memory) leastCapacity .state)
         × (r .counters ≡ log .counters)
         × (r .memory ≡ log .memory) ⌝ }
 {

@@ -2,11 +2,11 @@
 use calls::Answer;
 use calls::State;
 use events::Event;
-use events::LEAST_ROOM;
+use events::LEAST_CAPACITY;
 use libc::STDOUT_FILENO;
 use sections::MEMORY;
 ghost use mathlib.Core.Path.{_≡_};
-ghost use Rattle.call_lines.specs.Marks.{marked, isMarked};
+ghost use Rattle.call_lines.specs.inner.Marks.{marked, isMarked};
 
 pub fn text(s: &[u8]) {
     io::write_all(STDOUT_FILENO, s);
@@ -61,9 +61,9 @@ fn event(e: Event) {
 }
 
 // The first n records, and whether the others are untouched.
-pub fn events(list: [Event; LEAST_ROOM], n: usize) {
+pub fn events(list: [Event; LEAST_CAPACITY], n: usize) {
     let mut untouched = true;
-    for i in 0..LEAST_ROOM {
+    for i in 0..LEAST_CAPACITY {
         let e = list[i];
         if i < n {
             event(e);

@@ -10,7 +10,7 @@ use lib.ListN.{length, getD, length-take, List·getD-eq-default}
 use lib.Seq.{getD-take}
 use borrow.Author.Tests.{ltb-false, leb-true, eqb-true, eqb-false, le-ltb, le-leb, eq-eqb, ne-eqb, not-true}
 use Rattle.lists.proofs.Tests.{and-left, and-right, and-intro, Order, below, from, order}
-use Rattle.events.specs.Room.{leastRoom}
+use Rattle.events.specs.Capacity.{leastCapacity}
 use Rattle.watches.specs.declared.Entry.{Entry}
 use Rattle.watches.specs.Tables.{noEntry, latestTime}
 use Rattle.header.specs.Header.{packetSize}
@@ -47,7 +47,7 @@ open-accepted t counters e =
 
 -- A CLOCK CALL
 pub record ClockAccepted (s : State) (t : ℕ) (m : List ℕ) (records : ℕ) : Type 0 where
-  pub room : leastRoom ≤ records
+  pub capacity : leastCapacity ≤ records
   pub time : t ≤ latestTime
   pub sound : stateSound s m ≡ true
   pub order : s .latest ≤ t
@@ -56,96 +56,96 @@ abbrev lastRungs : State → ℕ → Bool → ℕ
 lastRungs s t sound = cond (timeSound t) (cond sound (cond (ltb t (s .latest)) 6 0) 5) 4
 
 abbrev roomRung : State → ℕ → Bool → ℕ → ℕ
-roomRung s t sound room = cond (ltb room leastRoom) 3 (lastRungs s t sound)
+roomRung s t sound capacity = cond (ltb capacity leastCapacity) 3 (lastRungs s t sound)
 
 -- what both calls are asked
 record Asked (s : State) (t : ℕ) (five : Bool) (records : ℕ) : Type 0 where
-  room : leastRoom ≤ records
+  capacity : leastCapacity ≤ records
   time : t ≤ latestTime
   sound : five ≡ true
   order : s .latest ≤ t
 
-asked : (s : State) (t : ℕ) (sound : Bool) (room : ℕ) → roomRung s t sound room ≡ 0 → Asked s t sound room
-asked s t sound room e =
-    let three = rung-wrong (ltb room leastRoom) 2 (lastRungs s t sound) e in
+asked : (s : State) (t : ℕ) (sound : Bool) (capacity : ℕ) → roomRung s t sound capacity ≡ 0 → Asked s t sound capacity
+asked s t sound capacity e =
+    let three = rung-wrong (ltb capacity leastCapacity) 2 (lastRungs s t sound) e in
     let four = rung-right (timeSound t) 3 (cond sound (cond (ltb t (s .latest)) 6 0) 5) (three .1) in
     let five = rung-right sound 4 (cond (ltb t (s .latest)) 6 0) (four .1) in
     let six = rung-wrong (ltb t (s .latest)) 5 0 (five .1) in
     record {
-      room = ltb-false room leastRoom (three .0);
+      capacity = ltb-false capacity leastCapacity (three .0);
       time = leb-true t latestTime (four .0);
       sound = five .0;
       order = ltb-false t (s .latest) (six .0);
     }
 
-granted : (s : State) (t : ℕ) (sound : Bool) (room : ℕ) → leastRoom ≤ room → t ≤ latestTime → sound ≡ true → s .latest ≤ t → roomRung s t sound room ≡ 0
-granted s t sound room r h e o = rw (le-ltb room leastRoom r, le-leb t latestTime h, e, le-ltb t (s .latest) o)
+granted : (s : State) (t : ℕ) (sound : Bool) (capacity : ℕ) → leastCapacity ≤ capacity → t ≤ latestTime → sound ≡ true → s .latest ≤ t → roomRung s t sound capacity ≡ 0
+granted s t sound capacity r h e o = rw (le-ltb capacity leastCapacity r, le-leb t latestTime h, e, le-ltb t (s .latest) o)
 
-pub clock-accepted : (s : State) (t : ℕ) (m : List ℕ) (room : ℕ) → clockRefusal s t m room ≡ 0 → ClockAccepted s t m room
+pub clock-accepted : (s : State) (t : ℕ) (m : List ℕ) (capacity : ℕ) → clockRefusal s t m capacity ≡ 0 → ClockAccepted s t m capacity
 unfolding clockRefusal
-clock-accepted s t m room e =
-    let a = asked s t (stateSound s m) room e in
-    record { room = a .room; time = a .time; sound = a .sound; order = a .order }
+clock-accepted s t m capacity e =
+    let a = asked s t (stateSound s m) capacity e in
+    record { capacity = a .capacity; time = a .time; sound = a .sound; order = a .order }
 
-pub accepted-clock : (s : State) (t : ℕ) (m : List ℕ) (room : ℕ) → ClockAccepted s t m room → clockRefusal s t m room ≡ 0
+pub accepted-clock : (s : State) (t : ℕ) (m : List ℕ) (capacity : ℕ) → ClockAccepted s t m capacity → clockRefusal s t m capacity ≡ 0
 unfolding clockRefusal
-accepted-clock s t m room a = granted s t (stateSound s m) room (a .room) (a .time) (a .sound) (a .order)
+accepted-clock s t m capacity a = granted s t (stateSound s m) capacity (a .capacity) (a .time) (a .sound) (a .order)
 
 -- A PACKET CALL
 pub record PacketAccepted (s : State) (t : ℕ) (p counters m : List ℕ) (records : ℕ) : Type 0 where
   pub packet : length p ≡ packetSize
   pub table : length counters ≡ tableSize
-  pub room : leastRoom ≤ records
+  pub capacity : leastCapacity ≤ records
   pub time : t ≤ latestTime
   pub sound : stateSound s m ≡ true
   pub byte : byteSound counters p ≡ true
   pub order : s .latest ≤ t
 
-module _ (s : State) (t : ℕ) (p counters m : List ℕ) (room : ℕ) where
-  pub packet-accepted : packetRefusal s t p counters m room ≡ 0 → PacketAccepted s t p counters m room
+module _ (s : State) (t : ℕ) (p counters m : List ℕ) (capacity : ℕ) where
+  pub packet-accepted : packetRefusal s t p counters m capacity ≡ 0 → PacketAccepted s t p counters m capacity
   unfolding packetRefusal
   packet-accepted e =
       let five = stateSound s m && byteSound counters p in
-      let one = rung-right (eqb (length p) packetSize) 0 (cond (eqb (length counters) tableSize) (roomRung s t five room) 2) e in
-      let two = rung-right (eqb (length counters) tableSize) 1 (roomRung s t five room) (one .1) in
-      let a = asked s t five room (two .1) in
+      let one = rung-right (eqb (length p) packetSize) 0 (cond (eqb (length counters) tableSize) (roomRung s t five capacity) 2) e in
+      let two = rung-right (eqb (length counters) tableSize) 1 (roomRung s t five capacity) (one .1) in
+      let a = asked s t five capacity (two .1) in
       record {
         packet = eqb-true (length p) packetSize (one .0);
         table = eqb-true (length counters) tableSize (two .0);
-        room = a .room;
+        capacity = a .capacity;
         time = a .time;
         sound = and-left (stateSound s m) (byteSound counters p) (a .sound);
         byte = and-right (stateSound s m) (byteSound counters p) (a .sound);
         order = a .order;
       }
 
-  pub accepted-packet : PacketAccepted s t p counters m room → packetRefusal s t p counters m room ≡ 0
+  pub accepted-packet : PacketAccepted s t p counters m capacity → packetRefusal s t p counters m capacity ≡ 0
   unfolding packetRefusal
   accepted-packet a =
       rw (eq-eqb (length p) packetSize (a .packet), eq-eqb (length counters) tableSize (a .table))
-      (granted s t (stateSound s m && byteSound counters p) room (a .room) (a .time) (both (a .sound) (a .byte)) (a .order))
+      (granted s t (stateSound s m && byteSound counters p) capacity (a .capacity) (a .time) (both (a .sound) (a .byte)) (a .order))
     where
       both : stateSound s m ≡ true → byteSound counters p ≡ true → (stateSound s m && byteSound counters p) ≡ true
       both e h = rw (e, h)
 
   -- THE TWO ENDS of a call
-  pub packet-call-accepted : packetRefusal s t p counters m room ≡ 0 → packetCall s t p counters m room ≡ acceptedPacket s t p counters m
+  pub packet-call-accepted : packetRefusal s t p counters m capacity ≡ 0 → packetCall s t p counters m capacity ≡ acceptedPacket s t p counters m
   unfolding packetCall
-  packet-call-accepted e = rw (eq-eqb (packetRefusal s t p counters m room) 0 e)
+  packet-call-accepted e = rw (eq-eqb (packetRefusal s t p counters m capacity) 0 e)
 
-  pub packet-call-refused : (packetRefusal s t p counters m room ≡ 0 → ⊥)
-      → packetCall s t p counters m room ≡ refusedWith (packetRefusal s t p counters m room) s counters m
+  pub packet-call-refused : (packetRefusal s t p counters m capacity ≡ 0 → ⊥)
+      → packetCall s t p counters m capacity ≡ refusedWith (packetRefusal s t p counters m capacity) s counters m
   unfolding packetCall
-  packet-call-refused e = rw (ne-eqb (packetRefusal s t p counters m room) 0 e)
+  packet-call-refused e = rw (ne-eqb (packetRefusal s t p counters m capacity) 0 e)
 
-module _ (s : State) (t : ℕ) (m : List ℕ) (room : ℕ) where
-  pub clock-call-accepted : clockRefusal s t m room ≡ 0 → clockCall s t m room ≡ acceptedClock s t [] m
+module _ (s : State) (t : ℕ) (m : List ℕ) (capacity : ℕ) where
+  pub clock-call-accepted : clockRefusal s t m capacity ≡ 0 → clockCall s t m capacity ≡ acceptedClock s t [] m
   unfolding clockCall
-  clock-call-accepted e = rw (eq-eqb (clockRefusal s t m room) 0 e)
+  clock-call-accepted e = rw (eq-eqb (clockRefusal s t m capacity) 0 e)
 
-  pub clock-call-refused : (clockRefusal s t m room ≡ 0 → ⊥) → clockCall s t m room ≡ refusedWith (clockRefusal s t m room) s [] m
+  pub clock-call-refused : (clockRefusal s t m capacity ≡ 0 → ⊥) → clockCall s t m capacity ≡ refusedWith (clockRefusal s t m capacity) s [] m
   unfolding clockCall
-  clock-call-refused e = rw (ne-eqb (clockRefusal s t m room) 0 e)
+  clock-call-refused e = rw (ne-eqb (clockRefusal s t m capacity) 0 e)
 
 -- THE NUMBER that a call answers is its refusal
 answered : (n : ℕ) (s : State) (counters m : List ℕ) (x : Result) → x .refusal ≡ 0 → cond (eqb n 0) x (refusedWith n s counters m) .refusal ≡ n
@@ -155,13 +155,13 @@ answered n s counters m x e = go (eqb n 0) refl
     go true h = e ∙ sym (eqb-true n 0 h)
     go false h = refl
 
-pub packet-number : (s : State) (t : ℕ) (p counters m : List ℕ) (room : ℕ) → packetCall s t p counters m room .refusal ≡ packetRefusal s t p counters m room
+pub packet-number : (s : State) (t : ℕ) (p counters m : List ℕ) (capacity : ℕ) → packetCall s t p counters m capacity .refusal ≡ packetRefusal s t p counters m capacity
 unfolding packetCall
-packet-number s t p counters m room = answered (packetRefusal s t p counters m room) s counters m (acceptedPacket s t p counters m) refl
+packet-number s t p counters m capacity = answered (packetRefusal s t p counters m capacity) s counters m (acceptedPacket s t p counters m) refl
 
-pub clock-number : (s : State) (t : ℕ) (m : List ℕ) (room : ℕ) → clockCall s t m room .refusal ≡ clockRefusal s t m room
+pub clock-number : (s : State) (t : ℕ) (m : List ℕ) (capacity : ℕ) → clockCall s t m capacity .refusal ≡ clockRefusal s t m capacity
 unfolding clockCall
-clock-number s t m room = answered (clockRefusal s t m room) s [] m (acceptedClock s t [] m) refl
+clock-number s t m capacity = answered (clockRefusal s t m capacity) s [] m (acceptedClock s t [] m) refl
 
 -- A SOUND STATE, part by part
 pub record SoundEntry (e : Entry) : Type 0 where

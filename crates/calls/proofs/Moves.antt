@@ -24,7 +24,7 @@ use Rattle.programmes.specs.Listing.{nullPid}
 use Rattle.calls.specs.declared.Core.{Core}
 use Rattle.calls.specs.Cores.{Held, withHalf, roomFor, droppedRoom, withSync}
 use Rattle.calls.specs.Sync.{Synced, lostNow, inSync, whileLost, syncedOf}
-use Rattle.calls.specs.Steps.{Step, arrivedTable, arrivedProgramme, relisted, arrivedIn, bytesOf, absorbedBy, absorbed, absorbedAll, builtIn, jobOf, sectionsTaken, payloadTaken, counted, step5, step4, step3, step2, step1}
+use Rattle.calls.specs.Steps.{arrival, AfterStep, arrivedTable, arrivedProgramme, relisted, arrivedIn, bytesOf, absorbedBy, absorbed, absorbedAll, builtIn, jobOf, sectionsTaken, payloadTaken, counted, step5, step4, step3, step2, step1}
 
 -- WHERE NOTHING IS BUILT, nothing is dropped
 pub dropped-nowhere : (r : ℕ) (h : Held) → length (h .core .half) ≤ r → droppedRoom r h ≡ h
@@ -67,7 +67,7 @@ pub record Moves (t : ℕ) (p : List ℕ) (P : Held → List ℕ → Type 0) : T
 module _ (t : ℕ) (p : List ℕ) (P : Held → List ℕ → Type 0) (m : Moves t p P) where
   -- sections of a payload that was built in the room r of g
   module _ (g : Held) (cs : List ℕ) (r : ℕ) (before : P g cs) where
-    arrived-moves : (n : ℕ) (f : Finished) (h : Held) → From p g r f → P h cs → P (arrivedIn t r (pidOf p) n (bytesOf f) h) cs
+    arrived-moves : (n : ℕ) (f : Finished) (h : Held) → From p g r f → P h cs → P (arrivedIn (arrival t r (pidOf p)) n (bytesOf f) h) cs
     arrived-moves n f h from k = go (eqb r patRoom) refl
       where
         go : (b : Bool) → eqb r patRoom ≡ b
@@ -78,33 +78,33 @@ module _ (t : ℕ) (p : List ℕ) (P : Held → List ℕ → Type 0) (m : Moves 
             cond-either (λ (c : Core). P (record { core = c; memory = h .memory }) cs) (isPmtRoom r) (arrivedProgramme n (pidOf p) t (h .core)) (arrivedTable t r (h .core))
             (m .page g h cs r f from before k n) (m .table g h cs r f from before k)
 
-    absorbed-moves : (o : Outcome) (f : Finished) (h : Held) → From p g r f → P h cs → P (absorbedBy o t r (pidOf p) (bytesOf f) h .held) cs
+    absorbed-moves : (o : Outcome) (f : Finished) (h : Held) → From p g r f → P h cs → P (absorbedBy o (arrival t r (pidOf p)) (bytesOf f) h .held) cs
     absorbed-moves Unfinished f h from k = k
     absorbed-moves (Good n) f h from k = arrived-moves n f h from k
     absorbed-moves (Fault x c i) f h from k = k
     absorbed-moves Silent f h from k = k
 
-    all-moves : (fs : List Finished) (h : Held) → ((f : Finished) → Among f fs → From p g r f) → P h cs → P (absorbedAll t r (pidOf p) fs h .held) cs
+    all-moves : (fs : List Finished) (h : Held) → ((f : Finished) → Among f fs → From p g r f) → P h cs → P (absorbedAll (arrival t r (pidOf p)) fs h .held) cs
     unfolding absorbedAll
     all-moves [] h from k = k
     all-moves (f ∷ fs) h from k =
-        all-moves fs (absorbed t r (pidOf p) f h .held) (λ x a. from x (there a)) (absorbed-moves (outcomeOf r (pidOf p) f) f h (from f here) k)
+        all-moves fs (absorbed (arrival t r (pidOf p)) f h .held) (λ x a. from x (there a)) (absorbed-moves (outcomeOf r (pidOf p) f) f h (from f here) k)
 
-  payload-moves : (h : Held) (cs : List ℕ) → P h cs → P (payloadTaken t (roomFor (h .core) (pidOf p)) p h .held) cs
+  payload-moves : (h : Held) (cs : List ℕ) → P h cs → P (payloadTaken (arrival t (roomFor (h .core) (pidOf p)) (pidOf p)) p h .held) cs
   unfolding sectionsTaken
   payload-moves h cs k = go (ltb r roomCount) refl
     where
       r : ℕ
       r = roomFor (h .core) (pidOf p)
 
-      go : (b : Bool) → ltb r roomCount ≡ b → P (cond b (sectionsTaken t r (pidOf p) (unitStart p) (payloadOf p) h) (record { held = h; events = [] }) .held) cs
+      go : (b : Bool) → ltb r roomCount ≡ b → P (cond b (sectionsTaken (arrival t r (pidOf p)) (unitStart p) (payloadOf p) h) (record { held = h; events = [] }) .held) cs
       go true e =
           let inside = ltb-true r roomCount e in
           all-moves h cs r k (jobOf r (unitStart p) (payloadOf p) h .finished) (payloadBuilt p r h)
           (λ f a. record { room = refl; inside = inside; among = a }) (m .built h cs inside k)
       go false e = k
 
-  abbrev After : Step → Type 0
+  abbrev After : AfterStep → Type 0
   After x = P (x .held) (x .counters)
 
   step5-moves : (take : Bool) (cs : List ℕ) (h : Held) → P h cs → After (step5 t p take cs h)

@@ -28,7 +28,7 @@ use Rattle.programmes.specs.Places.{isListed, halfAt}
 use Rattle.calls.specs.declared.Core.{Core}
 use Rattle.calls.specs.Cores.{Held, listed, roomFor, droppedRoom}
 use Rattle.calls.specs.Sync.{Synced, inSync, whileLost, syncedOf}
-use Rattle.calls.specs.Steps.{Step, Absorbed, packetEvents, newList, absorbedBy, absorbed, absorbedAll, jobOf, sectionsTaken, scramblingEvents, counted, step5, step4, step2, step1}
+use Rattle.calls.specs.Steps.{arrival, AfterStep, Absorbed, packetEvents, newList, absorbedBy, absorbed, absorbedAll, jobOf, sectionsTaken, scramblingEvents, counted, step5, step4, step2, step1}
 
 pub record Given (t : ℕ) (p : List ℕ) (e : Event) : Type 0 where
   pub stamp : e .stamp ≡ t
@@ -77,7 +77,7 @@ module _ (t : ℕ) (p : List ℕ) where
       record { each = each-append xs ys (a .each) (b .each); few = λ z. omega (arith, length-append xs ys, a .few z, b .few z) }
 
   -- A FINISHED SECTION gives at most one
-  absorbed-own : (r : ℕ) (f : Finished) (h : Held) → Own t p 1 (absorbed t r (pidOf p) f h .events)
+  absorbed-own : (r : ℕ) (f : Finished) (h : Held) → Own t p 1 (absorbed (arrival t r (pidOf p)) f h .events)
   unfolding wholeOutcome
   absorbed-own r badLength h = own-one 1 faults.crcError faults.bad (omega arith) (omega arith) (omega arith) refl
   absorbed-own r (whole s) h =
@@ -89,17 +89,17 @@ module _ (t : ℕ) (p : List ℕ) where
       (own-none 1))))
     where
       By : Outcome → Type 0
-      By o = Own t p 1 (absorbedBy o t r (pidOf p) s h .events)
+      By o = Own t p 1 (absorbedBy o (arrival t r (pidOf p)) s h .events)
 
-  all-own : (r : ℕ) (fs : List Finished) (h : Held) → Own t p (length fs) (absorbedAll t r (pidOf p) fs h .events)
+  all-own : (r : ℕ) (fs : List Finished) (h : Held) → Own t p (length fs) (absorbedAll (arrival t r (pidOf p)) fs h .events)
   unfolding absorbedAll
   all-own r [] h = own-none 0
   all-own r (f ∷ fs) h =
-      let a = absorbed t r (pidOf p) f h in
-      own-append _ 1 (length fs) (a .events) (absorbedAll t r (pidOf p) fs (a .held) .events) (omega arith) (absorbed-own r f h) (all-own r fs (a .held))
+      let a = absorbed (arrival t r (pidOf p)) f h in
+      own-append _ 1 (length fs) (a .events) (absorbedAll (arrival t r (pidOf p)) fs (a .held) .events) (omega arith) (absorbed-own r f h) (all-own r fs (a .held))
 
   -- A PAYLOAD at most 61
-  taken-own : (r : ℕ) (h : Held) → Own t p sectionsMost (sectionsTaken t r (pidOf p) (unitStart p) (payloadOf p) h .events)
+  taken-own : (r : ℕ) (h : Held) → Own t p sectionsMost (sectionsTaken (arrival t r (pidOf p)) (unitStart p) (payloadOf p) h .events)
   unfolding sectionsTaken
   taken-own r h =
       let all = all-own r (jobOf r (unitStart p) (payloadOf p) h .finished) _ in
@@ -109,7 +109,7 @@ module _ (t : ℕ) (p : List ℕ) where
       }
 
   -- STEPS 5 TO 1
-  abbrev Gives : ℕ → Step → Type 0
+  abbrev Gives : ℕ → AfterStep → Type 0
   Gives n x = Own t p n (x .events)
 
   scrambling-own : (c : Core) → Own t p sectionsMost (scramblingEvents t c (pidOf p))
@@ -170,7 +170,7 @@ module _ (t : ℕ) (p : List ℕ) where
       let g : Held = record { core = y .core; memory = h .memory } in
       go (y .faults) (y .further) (sync-own (rightSync p) (h .core)) (step2 t p cs g) (step2-own cs g) g
     where
-      go : (fs : List ℕ) (further : Bool) → Own t p (cond further 0 ownMost) (packetEvents t p fs) → (x : Step) → Gives ownMost x → (g : Held)
+      go : (fs : List ℕ) (further : Bool) → Own t p (cond further 0 ownMost) (packetEvents t p fs) → (x : AfterStep) → Gives ownMost x → (g : Held)
           → Own t p ownMost (packetEvents t p fs ++ cond further x (record { held = g; counters = cs; events = [] }) .events)
       go fs true f x m g = own-append ownMost 0 ownMost (packetEvents t p fs) (x .events) (omega arith) f m
       go fs false f x m g = own-append ownMost ownMost 0 (packetEvents t p fs) [] (omega arith) f (own-none 0)

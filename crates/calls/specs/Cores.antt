@@ -5,11 +5,13 @@
 --   Held            == the core with section memory
 --   withSync, withSince, withList, withHalf == the core with another sync; other gap starts of the fixed tables; n listed of other entries; other
 --                      half-built lengths
+--   fixedRoom q rs, listRoom q es == that of a fixed table's PID, the number of tables where it is none's; that of a listed PID
 --   roomFor c q     == the room where sections of the PID q are built: that of its fixed table, or of its first place in the list; noRoom elsewhere
 --   droppedRoom r h == the half-built section of a room is dropped
 --   boardOf c       == the watches in the order of their late events: the fixed tables', then the programmes' in list order
 --   lateOf p t c    == the late events of a call at t after the latest accepted time p: those of the board
 --   opened t        == the core of an opening at t: in sync, the fixed watches begin, nothing listed, nothing half-built
+--   openedState t   == the state of an opening at t
 use Prim.Native.Nat.{ℕ, suc}
 use mathlib.Core.Bool.{Bool, false, cond}
 use mathlib.Core.List.{List, [], _∷_, _++_}

@@ -1,8 +1,14 @@
 -- The check behind refusal 5: document 01, "The calls and their numbers", its row 5. What the row does not name is no refusal.
 --
+--   greatestPid       == 0x1FFE
 --   timeSound t       == no time above 2^62
+--   timesSound ts     == none of these times is
+--   numberAmong n es  == the programme number n is listed in es
+--   entrySound e      == what is said of a listed programme by itself
 --   entriesSound es   == no programme number 0 or listed twice, no listed PID below 0x0020 or above 0x1FFE, no gap start above 2^62
 --   runSound c        == no sync run above 4 (above 1 in sync)
+--   roomSound ns m r  == so of the room r
+--   roomsFrom ns m r left == of `left` rooms from r on
 --   roomsSound ns m   == no half-built bytes that already make a whole section or break the section_length rule, in any room
 --   restSound c m     == the rest of the state, behind times and list: runSound and roomsSound
 --   stateSound s m    == all of it

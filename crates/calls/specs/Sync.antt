@@ -1,6 +1,7 @@
 -- Step 1 of document 01, "Judging one packet": sync. right says whether the packet's first byte is 0x47.
 --
 --   Synced           == the core after step 1, the faults that it gives, and whether the packet is judged further
+--   lostNow c        == sync is lost and all half-built sections are dropped
 --   inSync           == in sync: a wrong byte gives 0x000D; the second such packet running also gives 0x000C, sync is lost and all half-built
 --                       sections are dropped
 --   whileLost        == while lost: no events; the fifth right byte running restores sync and that packet is judged in full

@@ -1,1 +1,1 @@
-pub mod Ladders
+pub mod inner

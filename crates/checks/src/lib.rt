@@ -3,7 +3,7 @@
 use arrays::LATEST;
 use calls::GREATEST_PID;
 use calls::TABLE_SIZE;
-use events::LEAST_ROOM;
+use events::LEAST_CAPACITY;
 use header::PACKET_SIZE;
 use programmes::LOWEST_PID;
 use programmes::MOST_LISTED;
@@ -25,7 +25,7 @@ ghost use Rattle.programmes.specs.Listing.{mostListed};
 ghost use Rattle.calls.specs.Sound.{timesSound, numberAmong, entrySound, entriesSound, roomsFrom, roomsSound, stateSound};
 ghost use Rattle.calls.specs.Calls.{openRefusal, clockRefusal};
 ghost use Rattle.arrays.specs.Lent.{entriesIn, stateIn, coreTimeCount, coreWordCount};
-ghost use Rattle.checks.specs.Ladders.{sizesRefusal, stateRefusal};
+ghost use Rattle.checks.specs.inner.Ladders.{sizesRefusal, stateRefusal};
 
 // Whether none of the five gap starts is above 2^62.
 fn times_sound(since: &[u64]) -> bool
@@ -210,9 +210,9 @@ pub fn open_refusal(time: u64, counters: &[u8]) -> u32
     0
 }
 
-// Refusals 1 to 4 of a packet call, for an event list of `room` records; 0 where none of them is given.
-pub fn sizes_refusal(time: u64, packet: &[u8], counters: &[u8], room: usize) -> u32
-    ensures { λ r. ⌜ r ≡ sizesRefusal time (now (packet .entry)) (now (counters .entry)) room ⌝ }
+// Refusals 1 to 4 of a packet call, for an event list of `capacity` records; 0 where none of them is given.
+pub fn sizes_refusal(time: u64, packet: &[u8], counters: &[u8], capacity: usize) -> u32
+    ensures { λ r. ⌜ r ≡ sizesRefusal time (now (packet .entry)) (now (counters .entry)) capacity ⌝ }
 {
     if packet.len() != PACKET_SIZE {
         return 1;
@@ -220,7 +220,7 @@ pub fn sizes_refusal(time: u64, packet: &[u8], counters: &[u8], room: usize) -> 
     if counters.len() != TABLE_SIZE {
         return 2;
     }
-    if room < LEAST_ROOM {
+    if capacity < LEAST_CAPACITY {
         return 3;
     }
     if LATEST_TIME < time {
@@ -247,11 +247,11 @@ pub fn state_refusal(times: &[u64], words: &[u16], time: u64, memory: &[u8], byt
 }
 
 // The refusal of a clock call; 0 where it is accepted.
-pub fn clock_refusal(times: &[u64], words: &[u16], time: u64, memory: &[u8], room: usize) -> u32
+pub fn clock_refusal(times: &[u64], words: &[u16], time: u64, memory: &[u8], capacity: usize) -> u32
     requires { ⌜ (coreTimeCount ≤ length (now times)) × (coreWordCount ≤ length (now words)) × (length (now memory) ≡ memorySize) ⌝ }
-    ensures { λ r. ⌜ r ≡ clockRefusal (stateIn (now (times .entry)) (now (words .entry))) time (now (memory .entry)) room ⌝ }
+    ensures { λ r. ⌜ r ≡ clockRefusal (stateIn (now (times .entry)) (now (words .entry))) time (now (memory .entry)) capacity ⌝ }
 {
-    if room < LEAST_ROOM {
+    if capacity < LEAST_CAPACITY {
         return 3;
     }
     if LATEST_TIME < time {

@@ -11,7 +11,8 @@
 --   repeatedAgain b == counter c again: 0x000E, byte stays, payload skipped
 --   broken n       == any other: 0x000E, half-built section dropped, payload taken
 --   counterCase    == which of them, in the paper's order
---   countedOf b h  == step 4 whole: with a wrong length there is no payload to take, and control 11 also drops the half-built section
+--   withLength     == with a wrong length there is no payload to take, and control 11 also drops the half-built section
+--   countedOf b h  == step 4 whole
 use Prim.Native.Nat.{ℕ, _+_, _%_}
 use mathlib.Core.Bool.{Bool, true, false, cond, not, _&&_, _||_}
 use lib.Dec.{leb, eqb}

@@ -12,7 +12,7 @@ use Rattle.lists.proofs.Tests.{and-right, cond-either}
 use Rattle.lists.proofs.Laying.{laid-none, laid-turn}
 use Rattle.events.specs.declared.Event.{Event}
 use Rattle.events.specs.Events.{numbersOf, eventsLaid}
-use Rattle.events.specs.Room.{recordWidth}
+use Rattle.events.specs.Capacity.{recordWidth}
 use Rattle.watches.specs.Tables.{latestTime, fixedCount}
 use Rattle.header.specs.Header.{pidOf}
 use Rattle.programmes.specs.Listing.{mostListed}
@@ -25,16 +25,17 @@ use Rattle.calls.specs.Steps.{step1}
 use Rattle.calls.specs.Calls.{Result, openRefusal, packetRefusal, clockRefusal, openAnswer, openTable, packetCall, clockCall}
 use Rattle.calls.proofs.Accepted.{Sound, open-accepted, packet-call-accepted, packet-call-refused, clock-call-accepted, clock-call-refused}
 use Rattle.arrays.specs.declared.Reply.{Reply}
-use Rattle.arrays.specs.Lent.{coreIn, stateIn, timesOf, wordsOf, Sized, latestAt}
+use Rattle.arrays.specs.Lent.{coreIn, stateIn, timesOf, wordsOf, latestAt}
+use Rattle.arrays.specs.inner.Kept.{Sized}
 use Rattle.arrays.specs.Replies.{timesAfter, wordsAfter}
-use Rattle.payloads.specs.Taking.{held}
-use Rattle.checks.specs.Ladders.{Right}
-use Rattle.steps.specs.Judging.{Done}
-use Rattle.quiet.specs.Quiet.{quietCall}
+use Rattle.payloads.specs.inner.Taking.{held}
+use Rattle.checks.specs.inner.Ladders.{Right}
+use Rattle.steps.specs.inner.Judging.{Done}
+use Rattle.quiet.specs.inner.Quiet.{quietCall}
 use Rattle.quiet.proofs.Calls.{countedTable}
 use Rattle.quiet.proofs.Lents.{quiet-done}
-use Rattle.engine.specs.Numbers.{AllFit, Numbered}
-use Rattle.engine.specs.Lent.{PacketLaid, ClockLaid}
+use Rattle.engine.specs.inner.Numbers.{AllFit, Numbered}
+use Rattle.engine.specs.inner.Lent.{PacketLaid, ClockLaid}
 use Rattle.engine.proofs.Fits.{all-fit-append, step1-fits}
 
 -- A SOUND STATE, in the forms that judging a packet asks
@@ -76,33 +77,33 @@ module _ (t : ℕ) (counters : List ℕ) where
       (ap₂ refused (sym e) es, cleared ∙ ap (λ (n : ℕ). replicate n 0) (open-accepted t counters e .table))
 
 -- A PACKET CALL on two arrays
-module _ (times words : List ℕ) (t : ℕ) (p counters m : List ℕ) (room : ℕ) (before : List ℕ) where
+module _ (times words : List ℕ) (t : ℕ) (p counters m : List ℕ) (capacity : ℕ) (before : List ℕ) where
   abbrev called : Result
-  called = packetCall (stateIn times words) t p counters m room
+  called = packetCall (stateIn times words) t p counters m capacity
 
   abbrev told : ℕ → ℕ → Reply
   told number n = record { refusal = number; n = n }
 
-  pub packet-refused : (number : ℕ) → number ≡ packetRefusal (stateIn times words) t p counters m room → (number ≡ 0 → ⊥)
+  pub packet-refused : (number : ℕ) → number ≡ packetRefusal (stateIn times words) t p counters m capacity → (number ≡ 0 → ⊥)
       → PacketLaid called (told number 0) times times words words counters m before before
   unfolding timesAfter wordsAfter
   packet-refused number e wrong =
-      let refused : packetRefusal (stateIn times words) t p counters m room ≡ 0 → ⊥ = λ z. wrong (e ∙ z) in
-      rw (packet-call-refused (stateIn times words) t p counters m room refused, ne-eqb (packetRefusal (stateIn times words) t p counters m room) 0 refused)
+      let refused : packetRefusal (stateIn times words) t p counters m capacity ≡ 0 → ⊥ = λ z. wrong (e ∙ z) in
+      rw (packet-call-refused (stateIn times words) t p counters m capacity refused, ne-eqb (packetRefusal (stateIn times words) t p counters m capacity) 0 refused)
       (ap (λ (n : ℕ). told n 0) e, refl, refl, refl, refl, numbered-none before)
 
   -- a quiet one: nothing but one table byte and the latest time changes
-  pub packet-quiet : Sized times words → Right t p counters room → (table : List ℕ) → quietCall (stateIn times words) m t p (getD counters (pidOf p) 0) ≡ true → table ≡ countedTable p counters
+  pub packet-quiet : Sized times words → Right t p counters capacity → (table : List ℕ) → quietCall (stateIn times words) m t p (getD counters (pidOf p) 0) ≡ true → table ≡ countedTable p counters
       → PacketLaid called (told 0 0) times (set times latestAt t) words words table m before before
   packet-quiet sized right table e counted =
-      let d = quiet-done times words sized t p counters m room right e in
+      let d = quiet-done times words sized t p counters m capacity right e in
       (d .0, d .1, d .2, counted ∙ d .3, d .4, rw (d .5) (numbered-none before))
 
   abbrev late : List Event
   late = lateOf (getD times latestAt 0) t (coreIn times words)
 
   pub packet-done : {mid : List ℕ} {i : ℕ} {c : Core} {table left after : List ℕ} {r : ℕ} {timesLeft wordsLeft : List ℕ}
-      → packetRefusal (stateIn times words) t p counters m room ≡ 0 → t ≤ latestTime → pidOf p < 65536
+      → packetRefusal (stateIn times words) t p counters m capacity ≡ 0 → t ≤ latestTime → pidOf p < 65536
       → i ≡ length late → mid ≡ eventsLaid before 0 late → i ≤ fixedCount + mostListed → AllFit late
       → Done (step1 t p counters (held (coreIn times words) m)) 65 c table left mid i after r
       → timesLeft ≡ timesOf (record { latest = t; core = c }) → wordsLeft ≡ wordsOf (record { latest = t; core = c })
@@ -113,7 +114,7 @@ module _ (times words : List ℕ) (t : ℕ) (p counters m : List ℕ) (room : �
       let from : i ≡ 0 + length late = omega (arith, ei) in
       let w = laid-turn numbersOf recordWidth (λ e. refl) 0 i r before mid after late own from el (done .next) (done .laid) in
       let n : r ≡ length (late ++ own) = omega (arith, w .0) in
-      rw (packet-call-accepted (stateIn times words) t p counters m room e) (
+      rw (packet-call-accepted (stateIn times words) t p counters m capacity e) (
         ap (told 0) n,
         et ∙ ap (λ (k : Core). timesOf (record { latest = t; core = k })) (done .core),
         ew ∙ ap (λ (k : Core). wordsOf (record { latest = t; core = k })) (done .core),
@@ -127,24 +128,24 @@ module _ (times words : List ℕ) (t : ℕ) (p counters m : List ℕ) (room : �
       )
 
 -- A CLOCK CALL on two arrays
-module _ (times words : List ℕ) (t : ℕ) (m : List ℕ) (room : ℕ) (before : List ℕ) where
+module _ (times words : List ℕ) (t : ℕ) (m : List ℕ) (capacity : ℕ) (before : List ℕ) where
   abbrev clocked : Result
-  clocked = clockCall (stateIn times words) t m room
+  clocked = clockCall (stateIn times words) t m capacity
 
-  pub clock-refused : (number : ℕ) → number ≡ clockRefusal (stateIn times words) t m room → (number ≡ 0 → ⊥)
+  pub clock-refused : (number : ℕ) → number ≡ clockRefusal (stateIn times words) t m capacity → (number ≡ 0 → ⊥)
       → ClockLaid clocked (record { refusal = number; n = 0 }) times times words words before before
   unfolding timesAfter wordsAfter
   clock-refused number e wrong =
-      let refused : clockRefusal (stateIn times words) t m room ≡ 0 → ⊥ = λ z. wrong (e ∙ z) in
-      rw (clock-call-refused (stateIn times words) t m room refused, ne-eqb (clockRefusal (stateIn times words) t m room) 0 refused)
+      let refused : clockRefusal (stateIn times words) t m capacity ≡ 0 → ⊥ = λ z. wrong (e ∙ z) in
+      rw (clock-call-refused (stateIn times words) t m capacity refused, ne-eqb (clockRefusal (stateIn times words) t m capacity) 0 refused)
       (ap (λ (n : ℕ). record { refusal = n; n = 0 }) e, refl, refl, numbered-none before)
 
-  pub clock-done : {after : List ℕ} {i : ℕ} {timesLeft wordsLeft : List ℕ} → clockRefusal (stateIn times words) t m room ≡ 0
+  pub clock-done : {after : List ℕ} {i : ℕ} {timesLeft wordsLeft : List ℕ} → clockRefusal (stateIn times words) t m capacity ≡ 0
       → i ≡ length (lateOf (getD times latestAt 0) t (coreIn times words)) → after ≡ eventsLaid before 0 (lateOf (getD times latestAt 0) t (coreIn times words)) → i ≤ fixedCount + mostListed
       → AllFit (lateOf (getD times latestAt 0) t (coreIn times words))
       → timesLeft ≡ timesOf (record { latest = t; core = coreIn times words }) → wordsLeft ≡ wordsOf (record { latest = t; core = coreIn times words })
       → ClockLaid clocked (record { refusal = 0; n = i }) times timesLeft words wordsLeft before after
   unfolding stateIn timesAfter wordsAfter
   clock-done e ei el few fits et ew =
-      rw (clock-call-accepted (stateIn times words) t m room e)
+      rw (clock-call-accepted (stateIn times words) t m capacity e)
       (ap (λ (n : ℕ). record { refusal = 0; n = n }) ei, et, ew, record { laid = el; fits = fits; few = omega (arith, ei) })

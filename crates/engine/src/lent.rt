@@ -14,19 +14,21 @@ ghost use mathlib.Core.Bool.{_&&_};
 ghost use lib.Dec.{eqb};
 ghost use Prim.Native.Nat.{ℕ, _+_, _<_, _≤_};
 ghost use lib.ListN.{length, getD};
-ghost use Rattle.events.specs.Room.{leastRoom, numberRoom};
+ghost use Rattle.events.specs.Capacity.{leastCapacity, numberCapacity};
 ghost use Rattle.events.specs.Events.{eventsLaid};
 ghost use Rattle.watches.specs.Tables.{noEntry, latestTime, fixedCount};
 ghost use Rattle.watches.specs.Late.{entryRows, rowsLate};
-ghost use Rattle.header.specs.Header.{packetSize, rightSync, Seen};
+ghost use Rattle.header.specs.Header.{packetSize, rightSync};
+ghost use Rattle.header.specs.inner.Reads.{ReadOff};
 ghost use Rattle.sections.specs.Rooms.{memorySize};
 ghost use Rattle.programmes.specs.Listing.{mostListed};
 ghost use Rattle.calls.specs.Cores.{lateOf};
 ghost use Rattle.calls.specs.Calls.{packetCall, clockCall};
-ghost use Rattle.arrays.specs.Lent.{gapsIn, countIn, entriesIn, listedIn, coreIn, stateIn, Sized, latestAt};
-ghost use Rattle.checks.specs.Ladders.{Right};
-ghost use Rattle.engine.specs.Numbers.{AllFit};
-ghost use Rattle.engine.specs.Lent.{PacketLaid, ClockLaid};
+ghost use Rattle.arrays.specs.Lent.{gapsIn, countIn, entriesIn, listedIn, coreIn, stateIn, latestAt};
+ghost use Rattle.arrays.specs.inner.Kept.{Sized};
+ghost use Rattle.checks.specs.inner.Ladders.{Right};
+ghost use Rattle.engine.specs.inner.Numbers.{AllFit};
+ghost use Rattle.engine.specs.inner.Lent.{PacketLaid, ClockLaid};
 
 fn bytes_in(s: &[u8]) -> usize
     ensures { λ r. ⌜ r ≡ length (now (s .entry)) ⌝ }
@@ -49,14 +51,14 @@ pub(crate) fn memory_size(memory: &[u8; MEMORY]) -> usize
 
 // So has the list of numbers: the numbers of the least event list.
 fn numbers_size(numbers: &[u64; NUMBERS]) -> usize
-    ensures { λ r. ⌜ (r ≡ numberRoom) × (length (now (numbers .entry)) ≡ numberRoom) ⌝ }
+    ensures { λ r. ⌜ (r ≡ numberCapacity) × (length (now (numbers .entry)) ≡ numberCapacity) ⌝ }
 {
     numbers_in(numbers)
 }
 
 // The late events of the listed programmes, in list order, laid from the place n on; the next place.
 fn late_entries(times: &[u64], words: &[u16], time: u64, numbers: &mut [u64], n: usize) -> usize
-    requires { ⌜ Sized (now times) (now words) × (n + mostListed ≤ leastRoom) × (numberRoom ≤ length (now numbers)) × (countIn (now words) ≤ mostListed)
+    requires { ⌜ Sized (now times) (now words) × (n + mostListed ≤ leastCapacity) × (numberCapacity ≤ length (now numbers)) × (countIn (now words) ≤ mostListed)
         × ((k : ℕ) → k < countIn (now words) → getD (entriesIn (now times) (now words)) k noEntry .since ≤ latestTime) ⌝ }
     ensures { λ r. ⌜ (r ≡ n + length (rowsLate (getD (now (times .entry)) latestAt 0) time (entryRows (listedIn (now (times .entry)) (now (words .entry))))))
         × (now (numbers .exit) ≡ eventsLaid (now (numbers .entry)) n (rowsLate (getD (now (times .entry)) latestAt 0) time (entryRows (listedIn (now (times .entry)) (now (words .entry))))))
@@ -76,7 +78,7 @@ fn late_entries(times: &[u64], words: &[u16], time: u64, numbers: &mut [u64], n:
 
 // The late events of a call, laid first; how many there are.
 fn judge_late(times: &[u64], words: &[u16], time: u64, numbers: &mut [u64]) -> usize
-    requires { ⌜ Sized (now times) (now words) × (numberRoom ≤ length (now numbers)) × (countIn (now words) ≤ mostListed) × ((k : ℕ) → getD (gapsIn (now times)) k 0 ≤ latestTime)
+    requires { ⌜ Sized (now times) (now words) × (numberCapacity ≤ length (now numbers)) × (countIn (now words) ≤ mostListed) × ((k : ℕ) → getD (gapsIn (now times)) k 0 ≤ latestTime)
         × ((k : ℕ) → k < countIn (now words) → getD (entriesIn (now times) (now words)) k noEntry .since ≤ latestTime) ⌝ }
     ensures { λ r. ⌜ (r ≡ length (lateOf (getD (now (times .entry)) latestAt 0) time (coreIn (now (times .entry)) (now (words .entry)))))
         × (now (numbers .exit) ≡ eventsLaid (now (numbers .entry)) 0 (lateOf (getD (now (times .entry)) latestAt 0) time (coreIn (now (times .entry)) (now (words .entry)))))
@@ -97,11 +99,11 @@ pub(crate) fn loud_packet(
     byte: u8,
     counters: &mut [u8],
     memory: &mut [u8; MEMORY],
-    room: usize,
+    capacity: usize,
     numbers: &mut [u64; NUMBERS],
 ) -> Reply
-    requires { ⌜ Right time (now packet) (now counters) room × Seen (now packet) (now counters) h byte × (h .pid < 8192) ⌝ }
-    ensures { λ r. ⌜ PacketLaid (packetCall (stateIn (now (times .entry)) (now (words .entry))) time (now (packet .entry)) (now (counters .entry)) (now (memory .entry)) room)
+    requires { ⌜ Right time (now packet) (now counters) capacity × ReadOff (now packet) (now counters) h byte × (h .pid < 8192) ⌝ }
+    ensures { λ r. ⌜ PacketLaid (packetCall (stateIn (now (times .entry)) (now (words .entry))) time (now (packet .entry)) (now (counters .entry)) (now (memory .entry)) capacity)
         r (now (times .entry)) (now (times .exit)) (now (words .entry)) (now (words .exit)) (now (counters .exit)) (now (memory .exit)) (now (numbers .entry)) (now (numbers .exit)) ⌝ }
 {
     let t = arrays::time_count(times);
@@ -140,16 +142,16 @@ fn synced_packet(
     packet: &[u8],
     counters: &mut [u8],
     memory: &mut [u8; MEMORY],
-    room: usize,
+    capacity: usize,
     numbers: &mut [u64; NUMBERS],
 ) -> Reply
-    ensures { λ r. ⌜ PacketLaid (packetCall (stateIn (now (times .entry)) (now (words .entry))) time (now (packet .entry)) (now (counters .entry)) (now (memory .entry)) room)
+    ensures { λ r. ⌜ PacketLaid (packetCall (stateIn (now (times .entry)) (now (words .entry))) time (now (packet .entry)) (now (counters .entry)) (now (memory .entry)) capacity)
         r (now (times .entry)) (now (times .exit)) (now (words .entry)) (now (words .exit)) (now (counters .exit)) (now (memory .exit)) (now (numbers .entry)) (now (numbers .exit)) ⌝ }
 {
     let t = arrays::time_count(times);
     let w = arrays::word_count(words);
     let size = memory_size(memory);
-    let refusal = checks::sizes_refusal(time, packet, counters, room);
+    let refusal = checks::sizes_refusal(time, packet, counters, capacity);
     if refusal != 0 {
         return Reply {
             refusal: refusal,
@@ -174,7 +176,7 @@ fn synced_packet(
         byte,
         counters,
         memory,
-        room,
+        capacity,
         numbers,
     )
 }
@@ -187,13 +189,13 @@ fn other_packet(
     packet: &[u8],
     counters: &mut [u8],
     memory: &mut [u8; MEMORY],
-    room: usize,
+    capacity: usize,
     numbers: &mut [u64; NUMBERS],
 ) -> Reply
-    ensures { λ r. ⌜ PacketLaid (packetCall (stateIn (now (times .entry)) (now (words .entry))) time (now (packet .entry)) (now (counters .entry)) (now (memory .entry)) room)
+    ensures { λ r. ⌜ PacketLaid (packetCall (stateIn (now (times .entry)) (now (words .entry))) time (now (packet .entry)) (now (counters .entry)) (now (memory .entry)) capacity)
         r (now (times .entry)) (now (times .exit)) (now (words .entry)) (now (words .exit)) (now (counters .exit)) (now (memory .exit)) (now (numbers .entry)) (now (numbers .exit)) ⌝ }
 {
-    let number = checks::sizes_refusal(time, packet, counters, room);
+    let number = checks::sizes_refusal(time, packet, counters, capacity);
     if number != 0 {
         return Reply {
             refusal: number,
@@ -211,7 +213,7 @@ fn other_packet(
         byte,
         counters,
         memory,
-        room,
+        capacity,
         numbers,
     )
 }
@@ -226,7 +228,7 @@ fn in_step(packet: &[u8]) -> bool
     packet[0] == SYNC_BYTE
 }
 
-// A packet call, for an event list of `room` records. The packet's first byte is looked at before all else: so the packet is
+// A packet call, for an event list of `capacity` records. The packet's first byte is looked at before all else: so the packet is
 // on its way from memory while the rest of the call is judged. A call without a right one is not quiet.
 pub fn packet_in(
     times: &mut [u64; TIMES],
@@ -235,35 +237,53 @@ pub fn packet_in(
     packet: &[u8],
     counters: &mut [u8],
     memory: &mut [u8; MEMORY],
-    room: usize,
+    capacity: usize,
     numbers: &mut [u64; NUMBERS],
 ) -> Reply
-    ensures { λ r. ⌜ PacketLaid (packetCall (stateIn (now (times .entry)) (now (words .entry))) time (now (packet .entry)) (now (counters .entry)) (now (memory .entry)) room)
+    ensures { λ r. ⌜ PacketLaid (packetCall (stateIn (now (times .entry)) (now (words .entry))) time (now (packet .entry)) (now (counters .entry)) (now (memory .entry)) capacity)
         r (now (times .entry)) (now (times .exit)) (now (words .entry)) (now (words .exit)) (now (counters .exit)) (now (memory .exit)) (now (numbers .entry)) (now (numbers .exit)) ⌝ }
 {
     if in_step(packet) {
-        return synced_packet(times, words, time, packet, counters, memory, room, numbers);
+        return synced_packet(
+            times,
+            words,
+            time,
+            packet,
+            counters,
+            memory,
+            capacity,
+            numbers,
+        );
     }
-    other_packet(times, words, time, packet, counters, memory, room, numbers)
+    other_packet(
+        times,
+        words,
+        time,
+        packet,
+        counters,
+        memory,
+        capacity,
+        numbers,
+    )
 }
 
-// A clock call, for an event list of `room` records: the late events alone.
+// A clock call, for an event list of `capacity` records: the late events alone.
 pub fn clock_in(
     times: &mut [u64; TIMES],
     words: &mut [u16; WORDS],
     time: u64,
     memory: &[u8; MEMORY],
-    room: usize,
+    capacity: usize,
     numbers: &mut [u64; NUMBERS],
 ) -> Reply
-    ensures { λ r. ⌜ ClockLaid (clockCall (stateIn (now (times .entry)) (now (words .entry))) time (now (memory .entry)) room)
+    ensures { λ r. ⌜ ClockLaid (clockCall (stateIn (now (times .entry)) (now (words .entry))) time (now (memory .entry)) capacity)
         r (now (times .entry)) (now (times .exit)) (now (words .entry)) (now (words .exit)) (now (numbers .entry)) (now (numbers .exit)) ⌝ }
 {
     let t = arrays::time_count(times);
     let w = arrays::word_count(words);
     let size = memory_size(memory);
     let places = numbers_size(numbers);
-    let refusal = checks::clock_refusal(times, words, time, memory, room);
+    let refusal = checks::clock_refusal(times, words, time, memory, capacity);
     if refusal != 0 {
         return Reply {
             refusal: refusal,

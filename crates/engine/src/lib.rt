@@ -19,7 +19,7 @@ ghost use mathlib.Core.Path.{_≡_};
 ghost use lib.ListN.{length, replicate};
 ghost use Rattle.calls.specs.Cores.{openedState};
 ghost use Rattle.calls.specs.Calls.{openAnswer, openTable, packetCall, clockCall, answerOf};
-ghost use Rattle.engine.specs.Numbers.{Numbered};
+ghost use Rattle.engine.specs.inner.Numbers.{Numbered};
 
 // The state of an opening.
 fn opened_at(time: u64) -> State
@@ -73,7 +73,7 @@ pub fn open_at(time: u64, counters: &mut [u8]) -> Answer
     }
 }
 
-// A packet call, for an event list of `room` records. Most are quiet, and done where that is seen; for any other the state
+// A packet call, for an event list of `capacity` records. Most are quiet, and done where that is seen; for any other the state
 // is laid into arrays, and read from them where the call is accepted.
 pub fn packet_at(
     state: State,
@@ -81,17 +81,17 @@ pub fn packet_at(
     packet: &[u8],
     counters: &mut [u8],
     memory: &mut [u8; MEMORY],
-    room: usize,
+    capacity: usize,
     numbers: &mut [u64; NUMBERS],
 ) -> Answer
-    ensures { λ r. ⌜ (r ≡ answerOf (packetCall state time (now (packet .entry)) (now (counters .entry)) (now (memory .entry)) room))
-        × (now (counters .exit) ≡ packetCall state time (now (packet .entry)) (now (counters .entry)) (now (memory .entry)) room .counters)
-        × (now (memory .exit) ≡ packetCall state time (now (packet .entry)) (now (counters .entry)) (now (memory .entry)) room .memory)
-        × Numbered (now (numbers .entry)) (now (numbers .exit)) (packetCall state time (now (packet .entry)) (now (counters .entry)) (now (memory .entry)) room .events) ⌝ }
+    ensures { λ r. ⌜ (r ≡ answerOf (packetCall state time (now (packet .entry)) (now (counters .entry)) (now (memory .entry)) capacity))
+        × (now (counters .exit) ≡ packetCall state time (now (packet .entry)) (now (counters .entry)) (now (memory .entry)) capacity .counters)
+        × (now (memory .exit) ≡ packetCall state time (now (packet .entry)) (now (counters .entry)) (now (memory .entry)) capacity .memory)
+        × Numbered (now (numbers .entry)) (now (numbers .exit)) (packetCall state time (now (packet .entry)) (now (counters .entry)) (now (memory .entry)) capacity .events) ⌝ }
 {
     let size = lent::memory_size(memory);
     let shape = arrays::typed(state);
-    let refusal = checks::sizes_refusal(time, packet, counters, room);
+    let refusal = checks::sizes_refusal(time, packet, counters, capacity);
     if refusal != 0 {
         return Answer {
             refusal: refusal,
@@ -128,7 +128,7 @@ pub fn packet_at(
         byte,
         counters,
         memory,
-        room,
+        capacity,
         numbers,
     );
     if r.refusal != 0 {
@@ -145,23 +145,23 @@ pub fn packet_at(
     }
 }
 
-// A clock call, for an event list of `room` records: the late events alone.
+// A clock call, for an event list of `capacity` records: the late events alone.
 pub fn clock_at(
     state: State,
     time: u64,
     memory: &[u8; MEMORY],
-    room: usize,
+    capacity: usize,
     numbers: &mut [u64; NUMBERS],
 ) -> Answer
-    ensures { λ r. ⌜ (r ≡ answerOf (clockCall state time (now (memory .entry)) room))
-        × Numbered (now (numbers .entry)) (now (numbers .exit)) (clockCall state time (now (memory .entry)) room .events) ⌝ }
+    ensures { λ r. ⌜ (r ≡ answerOf (clockCall state time (now (memory .entry)) capacity))
+        × Numbered (now (numbers .entry)) (now (numbers .exit)) (clockCall state time (now (memory .entry)) capacity .events) ⌝ }
 {
     let shape = arrays::typed(state);
     let mut times = [0u64; TIMES];
     let mut words = [0u16; WORDS];
     arrays::lay_times(state, &mut times);
     arrays::lay_words(state, &mut words);
-    let r = lent::clock_in(&mut times, &mut words, time, memory, room, numbers);
+    let r = lent::clock_in(&mut times, &mut words, time, memory, capacity, numbers);
     if r.refusal != 0 {
         return Answer {
             refusal: r.refusal,

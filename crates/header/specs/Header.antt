@@ -1,5 +1,6 @@
 -- The fields of a packet: document 01, "Judging one packet", and ISO/IEC 13818-1, 2.4.3.2 to 2.4.3.5. p is the packet's 188 bytes.
 --
+--   packetSize      == 188
 --   syncByte        == 0x47, the first byte of a packet
 --   rightSync p     == its first byte is that
 --   errorBit, unitStart p == transport_error_indicator, payload_unit_start_indicator
@@ -7,6 +8,7 @@
 --   scrambledBits p == transport_scrambling_control is not 00
 --   controlOf p     == adaptation_field_control, a number: 0 for 00, 1 for 01, 2 for 10, 3 for 11
 --   counterOf p     == continuity_counter
+--   adaptationLength p == adaptation_field_length
 --   rightLength control length == control 10 needs adaptation length 183, control 11 needs 0 to 182
 --   lengthRight p   == the packet's is right
 --   indicator p     == the discontinuity indicator: 0 where there is none, with length 0, and with a wrong length
@@ -15,8 +17,6 @@
 --   payloadAt p     == where the packet's begins
 --   payloadOf p     == the part of the packet after its header and adaptation field
 --   headerOf p      == all of it
---   Seen p counters h b == what a call reads of the packet p once: its header h, and the byte b of its PID in the counter table
-use mathlib.Core.Path.{_≡_}
 use Prim.Native.Nat.{ℕ, _+_, _*_, _/_, _%_}
 use mathlib.Core.Bool.{Bool, true, cond, _&&_, _||_}
 use mathlib.Core.List.{List}
@@ -88,7 +88,3 @@ headerOf p =
       discontinuity = indicator p;
       payload = payloadAt p;
     }
-
-pub record Seen (p counters : List ℕ) (h : Header) (b : ℕ) : Type 0 where
-  pub header : h ≡ headerOf p
-  pub byte : b ≡ getD counters (pidOf p) 0

@@ -7,28 +7,28 @@ use native.Mathlib.Nat.{add-zero}
 use native.Mathlib.Omega.{arith}
 use lib.Dec.{eqb}
 use lib.ListN.{length, take, drop}
-use borrow.Author.Tests.{ne-eqb, eq-eqb, lt-ltb, le-ltb}
+use borrow.Author.Tests.{lt-ltb, le-ltb}
 use Rattle.lists.proofs.Tests.{cond-either}
 use Rattle.lists.proofs.Turns.{rest-all}
 use Rattle.lists.proofs.Laying.{laid-none, laid-length, laid-turn}
 use Rattle.events.specs.Events.{numbersOf}
-use Rattle.events.specs.Room.{recordWidth}
+use Rattle.events.specs.Capacity.{recordWidth}
 use Rattle.sections.specs.declared.Stage.{Stage}
 use Rattle.sections.specs.declared.Stage.the-variants.{More, Bad, Whole}
 use Rattle.sections.specs.declared.Laid.{Laid}
 use Rattle.sections.specs.Rooms.{memorySize, roomCount, roomBase, greatestLength, halfBuilt}
 use Rattle.sections.specs.Section.{stageOf, isMore}
-use Rattle.sections.specs.Building.{Mode, going, done, fresh, stopped, Finished, badLength, whole, Job, ended, fed, anew, restarted, emptied, begunJob, pointerOf, built}
-use Rattle.sections.specs.Steps.{laidOf, laidIn}
-use Rattle.sections.proofs.Counts.{fed-done, fed-stopped, resumed-most}
-use Rattle.sections.proofs.Chunks.{goes, Starts}
+use Rattle.sections.specs.Building.{goingOn, following, Finished, whole, Job, dropped, ended, fed, pointerOf, begunJob, built}
+use Rattle.sections.specs.inner.Steps.{laidOf, laidIn}
+use Rattle.sections.proofs.Counts.{fed-none, fed-ignored, going-most}
+use Rattle.sections.proofs.Chunks.{Begins, begins-within}
 use Rattle.sections.proofs.Jobs.{behind, SoundJob, fed-sound, empty-more}
 use Rattle.sections.proofs.Takes.{laid-size, laid-short, laid-fits, section-step}
 use Rattle.programmes.specs.Places.{halfAt}
 use Rattle.calls.specs.declared.Core.{Core}
-use Rattle.calls.specs.Steps.{Absorbed, absorbedAll, absorbed, sectionsTaken}
-use Rattle.payloads.specs.Taking.{held}
-use Rattle.payloads.specs.Parts.{cameTo, acted, newSections, goingOn, isStopped, isBad, Left, finished, Shown, Went, Gone, Fit}
+use Rattle.calls.specs.Steps.{arrival, Absorbed, absorbedAll, absorbed, sectionsTaken}
+use Rattle.payloads.specs.inner.Taking.{held}
+use Rattle.payloads.specs.inner.Parts.{cameTo, endActs, isBad, Left, finished, Shown, Went, Gone, Fit}
 use Rattle.payloads.proofs.Actions.{led, inMemory, came-behind}
 use Rattle.payloads.proofs.Kept.{few-kept}
 use Rattle.payloads.proofs.Sections.{empty, step-waits}
@@ -36,32 +36,14 @@ use Rattle.payloads.proofs.Sections.{empty, step-waits}
 greatest-most : (r : ℕ) → greatestLength r ≤ 4093
 greatest-most r = cond-either (λ n. n ≤ 4093) (eqb r 3) 4093 1021 (omega arith) (omega arith)
 
-stopped-anew : (md : Mode) → isStopped md ≡ true → anew md ≡ stopped
-stopped-anew going e = absurd (true≢false (sym e))
-stopped-anew done e = absurd (true≢false (sym e))
-stopped-anew fresh e = absurd (true≢false (sym e))
-stopped-anew stopped e = refl
-
-fresh-anew : (md : Mode) → isStopped md ≡ false → anew md ≡ fresh
-fresh-anew going e = refl
-fresh-anew done e = refl
-fresh-anew fresh e = refl
-fresh-anew stopped e = absurd (true≢false e)
-
 -- WHAT GOES ON
-going-none : (m : List ℕ) (n : ℕ) → eqb n 0 ≡ true → goingOn m n ≡ record { mode = done; memory = m; half = n; finished = [] }
-going-none m n e = rw e
-
-going-some : (m : List ℕ) (n : ℕ) → eqb n 0 ≡ false → goingOn m n ≡ record { mode = going; memory = m; half = n; finished = [] }
-going-some m n e = rw e
-
 -- no section is half-built
 pub gone-none : (t r pid : ℕ) (m : List ℕ) (n : ℕ) (s : List ℕ) (c : Core) (place : ℕ) (list : List ℕ) → n ≡ 0
-    → Gone t r pid (fed r (goingOn m n) s) c place list list m (record { core = c; n = place; half = 0; stopped = false })
+    → Gone t r pid (fed goingOn r (begunJob m n) s) c place list list m (record { core = c; n = place; half = 0; ignored = false })
 unfolding absorbedAll
 gone-none t r pid m n s c place list z =
-    let e = ap (λ j. fed r j s) (going-none m n (eq-eqb n 0 z)) ∙ fed-done r (record { mode = done; memory = m; half = n; finished = [] }) s refl in
-    rw e (record { shown = record { core = refl; memory = refl; next = sym (add-zero place); laid = sym (laid-none numbersOf recordWidth list place) }; half = sym z; stop = refl })
+    rw (fed-none r (begunJob m n) s z)
+    (record { shown = record { core = refl; memory = refl; next = sym (add-zero place); laid = sym (laid-none numbersOf recordWidth list place) }; half = sym z; ignored = refl })
 
 -- one is, and a step lays bytes behind it
 pub record HalfBuilt (r : ℕ) (m : List ℕ) (n : ℕ) (s : List ℕ) (l : Laid) (m′ : List ℕ) (c : Core) (list : List ℕ) : Type 0 where
@@ -73,9 +55,8 @@ pub record HalfBuilt (r : ℕ) (m : List ℕ) (n : ℕ) (s : List ℕ) (l : Laid
   pub some : n ≡ 0 → ⊥
 
 module _ {r : ℕ} {m : List ℕ} {n : ℕ} {s : List ℕ} {l : Laid} {m′ : List ℕ} {c : Core} {list : List ℕ} (q : HalfBuilt r m n s l m′ c list) where
-  starts : (x : List ℕ) → Starts n x
-  starts [] = tt
-  starts (b ∷ x) = rw (ne-eqb n 0 (q .some))
+  begins : Begins goingOn r (begunJob m n) s
+  begins = begins-within goingOn r (begunJob m n) s refl (q .some)
 
   pub going-fit : Fit c m′ list
   going-fit =
@@ -95,41 +76,40 @@ module _ {r : ℕ} {m : List ℕ} {n : ℕ} {s : List ℕ} {l : Laid} {m′ : Li
 
   module _ (t pid place : ℕ) where
     pub gone-waits : isMore (l .stage) ≡ true
-        → Gone t r pid (fed r (goingOn m n) s) c place list list m′ (record { core = c; n = place; half = l .length; stopped = false })
+        → Gone t r pid (fed goingOn r (begunJob m n) s) c place list list m′ (record { core = c; n = place; half = l .length; ignored = false })
     unfolding absorbedAll
     gone-waits e =
-        let z = ap (λ j. fed r j s) (going-some m n (ne-eqb n 0 (q .some))) ∙ step-waits t r pid m n s l m′ (q .room) (q .fit .whole) (q .more) (q .step) (q .memory) going goes (starts s) e in
-        rw z (record { shown = record { core = refl; memory = refl; next = sym (add-zero place); laid = sym (laid-none numbersOf recordWidth list place) }; half = refl; stop = refl })
+        rw (step-waits t r pid m n s l m′ (q .room) (q .fit .whole) (q .more) (q .step) (q .memory) goingOn begins e)
+        (record { shown = record { core = refl; memory = refl; next = sym (add-zero place); laid = sym (laid-none numbersOf recordWidth list place) }; half = refl; ignored = refl })
 
-    pub gone-acts : {b : Left} {m″ list′ : List ℕ} → Shown (acted t r pid (l .stage) (halfBuilt m′ r (l .length)) (held c m′)) place list list′ m″ b → isMore (l .stage) ≡ false
-        → Gone t r pid (fed r (goingOn m n) s) c place list list′ m″ (record { core = b .core; n = b .n; half = 0; stopped = isBad (l .stage) })
+    pub gone-acts : {b : Left} {m″ list′ : List ℕ} → Shown (endActs t r pid (l .stage) (halfBuilt m′ r (l .length)) (held c m′)) place list list′ m″ b → isMore (l .stage) ≡ false
+        → Gone t r pid (fed goingOn r (begunJob m n) s) c place list list′ m″ (record { core = b .core; n = b .n; half = 0; ignored = isBad (l .stage) })
     unfolding absorbedAll
     gone-acts {b = b} {m″ = m″} {list′ = list′} sh e =
-        rw (ap (λ j. fed r j s) (going-some m n (ne-eqb n 0 (q .some))) ∙ section-step r m n s l m′ (q .room) (q .fit .whole) (q .more) (q .step) (q .memory) going [] goes (starts s))
-        (go (l .stage) e sh)
+        rw (section-step r m n s l m′ (q .room) (q .fit .whole) (q .more) (q .step) (q .memory) goingOn begins) (go (l .stage) e sh)
       where
-        go : (g : Stage) → isMore g ≡ false → Shown (acted t r pid g (halfBuilt m′ r (l .length)) (held c m′)) place list list′ m″ b
-            → Gone t r pid (fed r (ended g (halfBuilt m′ r (l .length)) (record { mode = going; memory = m′; half = l .length; finished = [] })) (drop (l .taken) s)) c place list list′ m″ (record { core = b .core; n = b .n; half = 0; stopped = isBad g })
+        go : (g : Stage) → isMore g ≡ false → Shown (endActs t r pid g (halfBuilt m′ r (l .length)) (held c m′)) place list list′ m″ b
+            → Gone t r pid (fed goingOn r (ended g (halfBuilt m′ r (l .length)) (begunJob m′ (l .length))) (drop (l .taken) s)) c place list list′ m″ (record { core = b .core; n = b .n; half = 0; ignored = isBad g })
         go More e sh = absurd (true≢false e)
         go Bad e sh =
-            rw (fed-stopped r (record { mode = stopped; memory = m′; half = 0; finished = badLength ∷ [] }) (drop (l .taken) s) refl)
-            (record { shown = record { core = sh .core; memory = sh .memory; next = sh .next; laid = sh .laid }; half = refl; stop = refl })
+            rw (fed-none r (ended Bad [] (begunJob m′ (l .length))) (drop (l .taken) s) refl)
+            (record { shown = record { core = sh .core; memory = sh .memory; next = sh .next; laid = sh .laid }; half = refl; ignored = refl })
         go Whole e sh =
-            let x = whole (halfBuilt m′ r (l .length)) in
-            rw (fed-done r (record { mode = done; memory = m′; half = 0; finished = x ∷ [] }) (drop (l .taken) s) refl)
-            (record { shown = rw (append-nil (absorbed t r pid x (held c m′) .events)) (record { core = sh .core; memory = sh .memory; next = sh .next; laid = sh .laid }); half = refl; stop = refl })
+            let x = halfBuilt m′ r (l .length) in
+            rw (fed-none r (ended Whole x (begunJob m′ (l .length))) (drop (l .taken) s) refl)
+            (record { shown = rw (append-nil (absorbed (arrival t r pid) (whole x) (held c m′) .events)) (record { core = sh .core; memory = sh .memory; next = sh .next; laid = sh .laid }); half = refl; ignored = refl })
 
 -- AND THEN: what the half-built section came to acts first
 few-behind : (t r pid : ℕ) (fs : List Finished) → length fs ≤ 1 → (j : Job) (s : List ℕ) (c : Core) (m₀ : List ℕ) → SoundJob r j → 5 ≤ length (c .half)
-    → cameTo t r pid (fed r (behind fs j) s) (held c m₀)
-    ≡ led (absorbedAll t r pid fs (held c (j .memory)) .events)
-    (cameTo t r pid (fed r (inMemory (absorbedAll t r pid fs (held c (j .memory)) .held .memory) j) s) (absorbedAll t r pid fs (held c (j .memory)) .held))
+    → cameTo t r pid (fed following r (behind fs j) s) (held c m₀)
+    ≡ led (absorbedAll (arrival t r pid) fs (held c (j .memory)) .events)
+    (cameTo t r pid (fed following r (inMemory (absorbedAll (arrival t r pid) fs (held c (j .memory)) .held .memory) j) s) (absorbedAll (arrival t r pid) fs (held c (j .memory)) .held))
 unfolding absorbedAll
 few-behind t r pid [] h j s c m₀ q halves = refl
 few-behind t r pid (f ∷ []) h j s c m₀ q halves =
-    let a = absorbed t r pid f (held c (j .memory)) in
-    came-behind t r pid j s c m₀ q halves f
-    ∙ ap (λ es. led es (cameTo t r pid (fed r (inMemory (a .held .memory) j) s) (a .held))) (sym (append-nil (a .events)))
+    let a = absorbed (arrival t r pid) f (held c (j .memory)) in
+    came-behind t r pid following j s c m₀ q halves f
+    ∙ ap (λ es. led es (cameTo t r pid (fed following r (inMemory (a .held .memory) j) s) (a .held))) (sym (append-nil (a .events)))
 few-behind t r pid (f ∷ g ∷ fs) h j s c m₀ q halves = absurd (omega arith)
 
 -- what is left, by another name
@@ -154,34 +134,34 @@ shown-idle t r pid j c n half list g e eh eg =
 pub record Resuming (t r pid : ℕ) (m : List ℕ) (n : ℕ) (s : List ℕ) (c : Core) (place : ℕ) (list list₁ m₁ : List ℕ) (g : Went) : Type 0 where
   pub fit : Fit c m list
   pub more : isMore (stageOf (greatestLength r) (halfBuilt m r n)) ≡ true
-  pub gone : Gone t r pid (fed r (goingOn m n) s) c place list list₁ m₁ g
+  pub gone : Gone t r pid (fed goingOn r (begunJob m n) s) c place list list₁ m₁ g
 
 module _ {t r pid : ℕ} {m : List ℕ} {n : ℕ} {s : List ℕ} {c : Core} {place : ℕ} {list list₁ m₁ : List ℕ} {g : Went} (q : Resuming t r pid m n s c place list list₁ m₁ g) where
   abbrev job : Job
-  job = fed r (goingOn m n) s
+  job = fed goingOn r (begunJob m n) s
 
   abbrev acts : Absorbed
-  acts = absorbedAll t r pid (job .finished) (held c (job .memory))
+  acts = absorbedAll (arrival t r pid) (job .finished) (held c (job .memory))
 
-  sound : (md : Mode) (half : ℕ) → isMore (stageOf (greatestLength r) (halfBuilt (job .memory) r half)) ≡ true
-      → SoundJob r (record { mode = md; memory = job .memory; half = half; finished = [] })
-  sound md half e = record { size = fed-sound r (goingOn m n) s (record { size = q .fit .whole; more = q .more }) .size; more = e }
+  sound : (ignored : Bool) (half : ℕ) → isMore (stageOf (greatestLength r) (halfBuilt (job .memory) r half)) ≡ true
+      → SoundJob r (record { memory = job .memory; half = half; finished = []; ignored = ignored })
+  sound ignored half e = record { size = fed-sound goingOn r (begunJob m n) s (record { size = q .fit .whole; more = q .more }) .size; more = e }
 
-  -- the job that follows, in the mode and with the bytes at hand that are left to it
-  next-acts : (md : Mode) (half : ℕ) (s′ : List ℕ) → isMore (stageOf (greatestLength r) (halfBuilt (job .memory) r half)) ≡ true
-      → cameTo t r pid (fed r (record { mode = md; memory = job .memory; half = half; finished = job .finished }) s′) (held c m)
-      ≡ led (acts .events) (cameTo t r pid (fed r (record { mode = md; memory = acts .held .memory; half = half; finished = [] }) s′) (acts .held))
-  next-acts md half s′ e =
-      ap (λ fs. cameTo t r pid (fed r (record { mode = md; memory = job .memory; half = half; finished = fs }) s′) (held c m)) (sym (append-nil (job .finished)))
-      ∙ few-behind t r pid (job .finished) (resumed-most r (begunJob m n) s) (record { mode = md; memory = job .memory; half = half; finished = [] }) s′ c m (sound md half e) (q .fit .rooms)
+  -- the job that follows, with the bytes at hand that are left to it
+  next-acts : (ignored : Bool) (half : ℕ) (s′ : List ℕ) → isMore (stageOf (greatestLength r) (halfBuilt (job .memory) r half)) ≡ true
+      → cameTo t r pid (fed following r (record { memory = job .memory; half = half; finished = job .finished; ignored = ignored }) s′) (held c m)
+      ≡ led (acts .events) (cameTo t r pid (fed following r (record { memory = acts .held .memory; half = half; finished = []; ignored = ignored }) s′) (acts .held))
+  next-acts ignored half s′ e =
+      ap (λ fs. cameTo t r pid (fed following r (record { memory = job .memory; half = half; finished = fs; ignored = ignored }) s′) (held c m)) (sym (append-nil (job .finished)))
+      ∙ few-behind t r pid (job .finished) (going-most r (begunJob m n) s) (record { memory = job .memory; half = half; finished = []; ignored = ignored }) s′ c m (sound ignored half e) (q .fit .rooms)
 
   abbrev after : Left
   after = record { core = g .core; n = g .n }
 
   pub gone-fit : g .core .count ≤ 16 → Fit (g .core) m₁ list₁
   gone-fit most =
-      let whole = fed-sound r (goingOn m n) s (record { size = q .fit .whole; more = q .more }) .size in
-      let k = few-kept t r pid (job .finished) (resumed-most r (begunJob m n) s) c (job .memory) (q .fit .listed) (record { whole = whole; rooms = q .fit .rooms; halves = q .fit .halves }) in
+      let whole = fed-sound goingOn r (begunJob m n) s (record { size = q .fit .whole; more = q .more }) .size in
+      let k = few-kept t r pid (job .finished) (going-most r (begunJob m n) s) c (job .memory) (q .fit .listed) (record { whole = whole; rooms = q .fit .rooms; halves = q .fit .halves }) in
       record {
         whole = ap length (q .gone .shown .memory) ∙ k .whole;
         listed = most;
@@ -191,34 +171,33 @@ module _ {t r pid : ℕ} {m : List ℕ} {n : ℕ} {s : List ℕ} {c : Core} {pla
       }
 
   -- nothing more is read
-  next-idle : (md : Mode) (half : ℕ) (s′ : List ℕ) → isMore (stageOf (greatestLength r) (halfBuilt (job .memory) r half)) ≡ true
-      → fed r (record { mode = md; memory = acts .held .memory; half = half; finished = [] }) s′ ≡ record { mode = md; memory = acts .held .memory; half = half; finished = [] }
+  next-idle : (ignored : Bool) (half : ℕ) (s′ : List ℕ) → isMore (stageOf (greatestLength r) (halfBuilt (job .memory) r half)) ≡ true
+      → fed following r (record { memory = acts .held .memory; half = half; finished = []; ignored = ignored }) s′ ≡ record { memory = acts .held .memory; half = half; finished = []; ignored = ignored }
       → (x : Left) (size : ℕ) → size ≡ half → x ≡ finished r size (g .core) (g .n)
-      → Shown (cameTo t r pid (fed r (record { mode = md; memory = job .memory; half = half; finished = job .finished }) s′) (held c m)) place list list₁ m₁ x
-  next-idle md half s′ e idle x size eh ex =
-      let j : Job = record { mode = md; memory = acts .held .memory; half = half; finished = [] } in
+      → Shown (cameTo t r pid (fed following r (record { memory = job .memory; half = half; finished = job .finished; ignored = ignored }) s′) (held c m)) place list list₁ m₁ x
+  next-idle ignored half s′ e idle x size eh ex =
+      let j : Job = record { memory = acts .held .memory; half = half; finished = []; ignored = ignored } in
       let core = ex ∙ ap (λ k. finished r size k (g .n)) (q .gone .shown .core) in
-      rw (next-acts md half s′ e ∙ ap (λ k. led (acts .events) (cameTo t r pid k (acts .held))) idle, q .gone .shown .memory)
+      rw (next-acts ignored half s′ e ∙ ap (λ k. led (acts .events) (cameTo t r pid k (acts .held))) idle, q .gone .shown .memory)
       (shown-led acts (cameTo t r pid j (acts .held)) place list list₁ list₁ m₁ (acts .held .memory) after x (q .gone .shown) (shown-idle t r pid j (acts .held .core) (g .n) size list₁ x refl eh core))
 
   -- WITHOUT UNIT START
   pub no-start : (x : Left) → x ≡ finished r (g .half) (g .core) (g .n) → Shown (cameTo t r pid job (held c m)) place list list₁ m₁ x
   unfolding fed
-  no-start x e = next-idle (job .mode) (job .half) [] (fed-sound r (goingOn m n) s (record { size = q .fit .whole; more = q .more }) .more) refl x (g .half) (q .gone .half) e
+  no-start x e = next-idle (job .ignored) (job .half) [] (fed-sound goingOn r (begunJob m n) s (record { size = q .fit .whole; more = q .more }) .more) refl x (g .half) (q .gone .half) e
 
   -- WITH UNIT START: the rest of the payload is ignored, or new sections follow
   module _ (s₂ : List ℕ) where
-    pub rest-ignored : (x : Left) → g .stopped ≡ true → x ≡ finished r 0 (g .core) (g .n)
-        → Shown (cameTo t r pid (fed r (restarted job) s₂) (held c m)) place list list₁ m₁ x
+    pub rest-ignored : (x : Left) → g .ignored ≡ true → x ≡ finished r 0 (g .core) (g .n)
+        → Shown (cameTo t r pid (fed following r (dropped job) s₂) (held c m)) place list list₁ m₁ x
     rest-ignored x e ex =
-        rw (stopped-anew (job .mode) (sym (q .gone .stop) ∙ e))
-        (next-idle stopped 0 s₂ (empty-more (job .memory) r) (fed-stopped r (empty stopped (acts .held .memory)) s₂ refl) x 0 refl ex)
+        next-idle (job .ignored) 0 s₂ (empty-more (job .memory) r) (fed-ignored r (empty (job .ignored) (acts .held .memory)) s₂ (sym (q .gone .ignored) ∙ e)) x 0 refl ex
 
-    pub rest-follows : (x : Left) (m₂ list₂ : List ℕ) → g .stopped ≡ false → Shown (cameTo t r pid (fed r (newSections m₁) s₂) (held (g .core) m₁)) (g .n) list₁ list₂ m₂ x
-        → Shown (cameTo t r pid (fed r (restarted job) s₂) (held c m)) place list list₂ m₂ x
+    pub rest-follows : (x : Left) (m₂ list₂ : List ℕ) → g .ignored ≡ false → Shown (cameTo t r pid (fed following r (begunJob m₁ 0) s₂) (held (g .core) m₁)) (g .n) list₁ list₂ m₂ x
+        → Shown (cameTo t r pid (fed following r (dropped job) s₂) (held c m)) place list list₂ m₂ x
     rest-follows x m₂ list₂ e sh =
-        let b = cameTo t r pid (fed r (newSections (acts .held .memory)) s₂) (acts .held) in
-        rw (fresh-anew (job .mode) (sym (q .gone .stop) ∙ e), next-acts fresh 0 s₂ (empty-more (job .memory) r))
+        let b = cameTo t r pid (fed following r (begunJob (acts .held .memory) 0) s₂) (acts .held) in
+        rw (sym (q .gone .ignored) ∙ e, next-acts false 0 s₂ (empty-more (job .memory) r))
         (shown-led acts b place list list₁ list₂ m₁ m₂ after x (q .gone .shown) (rw (q .gone .shown .core, q .gone .shown .memory) at sh))
 
 -- THE WHOLE PAYLOAD
@@ -226,20 +205,20 @@ module _ (t r pid : ℕ) (start : Bool) (s : List ℕ) (c : Core) (m : List ℕ)
   abbrev half : ℕ
   half = halfAt (c .half) r
 
-  pub taken-no-start : start ≡ false → sectionsTaken t r pid start s (held c m) ≡ cameTo t r pid (fed r (goingOn m half) s) (held c m)
+  pub taken-no-start : start ≡ false → sectionsTaken (arrival t r pid) start s (held c m) ≡ cameTo t r pid (fed goingOn r (begunJob m half) s) (held c m)
   unfolding sectionsTaken built
   taken-no-start e = rw e
 
   module _ (e : start ≡ true) (p : ℕ) (ep : p ≡ pointerOf s) where
     -- the pointer leads past the payload
-    pub taken-far : length s ≤ 1 + p → sectionsTaken t r pid start s (held c m) ≡ cameTo t r pid (emptied stopped (begunJob m half)) (held c m)
+    pub taken-far : length s ≤ 1 + p → sectionsTaken (arrival t r pid) start s (held c m) ≡ cameTo t r pid (dropped (begunJob m half)) (held c m)
     unfolding sectionsTaken built
     taken-far h = rw (e, sym ep, le-ltb (1 + p) (length s) h)
 
     -- or into it
     pub taken-near : 1 + p < length s
-        → sectionsTaken t r pid start s (held c m)
-        ≡ cameTo t r pid (fed r (restarted (fed r (goingOn m half) (take (1 + p - 1) (drop 1 s)))) (take (length s - (1 + p)) (drop (1 + p) s))) (held c m)
+        → sectionsTaken (arrival t r pid) start s (held c m)
+        ≡ cameTo t r pid (fed following r (dropped (fed goingOn r (begunJob m half) (take (1 + p - 1) (drop 1 s)))) (take (length s - (1 + p)) (drop (1 + p) s))) (held c m)
     unfolding sectionsTaken built
     taken-near h =
         let z : 1 + p - 1 ≡ p = omega arith in

@@ -12,8 +12,8 @@ use Rattle.sections.proofs.Stages.{half-short, room-fits}
 use Rattle.programmes.specs.Places.{halfAt}
 use Rattle.calls.specs.declared.Core.{Core}
 use Rattle.calls.proofs.Accepted.{rooms-at}
-use Rattle.payloads.specs.Taking.{Takable}
-use Rattle.payloads.specs.Parts.{Fit}
+use Rattle.payloads.specs.inner.Taking.{Takable}
+use Rattle.payloads.specs.inner.Parts.{Fit}
 
 module _ {c : Core} {m : List ℕ} {r : ℕ} {s : List ℕ} {n : ℕ} {list : List ℕ} (q : Takable c m r s n list) where
   pub takable-more : isMore (stageOf (greatestLength r) (halfBuilt m r (halfAt (c .half) r))) ≡ true

@@ -15,19 +15,20 @@ ghost use mathlib.Core.List.{List, [], _∷_};
 ghost use Prim.Native.Nat.{ℕ, _+_, _≤_, _<_};
 ghost use lib.Dec.{eqb};
 ghost use lib.ListN.{length, take};
-ghost use Rattle.events.specs.Room.{leastRoom, numberRoom};
+ghost use Rattle.events.specs.Capacity.{leastCapacity, numberCapacity};
 ghost use Rattle.events.specs.Faults as fault;
 ghost use Rattle.events.specs.Events.{eventAt, eventsLaid};
 ghost use Rattle.sections.specs.Rooms.{memorySize, roomCount, roomBase, patRoom, roomOfPlace, halfBuilt};
 ghost use Rattle.sections.specs.Outcomes.{eventsOf};
-ghost use Rattle.sections.specs.Steps.{stepOutcome};
+ghost use Rattle.sections.specs.inner.Steps.{stepOutcome};
 ghost use Rattle.programmes.specs.Listing.{listOf, mostListed};
 ghost use Rattle.programmes.specs.Places.{halfAt, movedHalves, movedBytes};
 ghost use Rattle.calls.specs.Cores.{withHalf};
-ghost use Rattle.calls.specs.Steps.{newList, relisted, arrivedIn};
-ghost use Rattle.arrays.specs.Lent.{wordCount, countIn, halvesIn, coreIn, Sized, SyncKept, Moved};
-ghost use Rattle.payloads.specs.Taking.{held};
-ghost use Rattle.payloads.specs.Parts.{acted, left, Shown, Fit};
+ghost use Rattle.calls.specs.Steps.{arrival, newList, relisted, arrivedIn};
+ghost use Rattle.arrays.specs.Lent.{wordCount, countIn, halvesIn, coreIn};
+ghost use Rattle.arrays.specs.inner.Kept.{Sized, SyncKept, Moved};
+ghost use Rattle.payloads.specs.inner.Taking.{held};
+ghost use Rattle.payloads.specs.inner.Parts.{endActs, left, Shown, Fit};
 
 // The list of a good PAT section, the first bytes of section memory; old is the list just replaced.
 fn list_in(
@@ -114,8 +115,8 @@ fn arrive(
 ) -> bool
     requires { ⌜ Sized (now times) (now words) × (length (now memory) ≡ memorySize) × (countIn (now words) ≤ mostListed) × (size ≤ memorySize) × (room < roomCount) ⌝ }
     requires { ⌜ ((k : ℕ) → k < mostListed → halfAt (halvesIn (now words)) (roomOfPlace k) ≤ 1024) ⌝ }
-    ensures { λ r. ⌜ (coreIn (now (times .exit)) (now (words .exit)) ≡ arrivedIn time room pid extension (halfBuilt (now (memory .entry)) room size) (held (coreIn (now (times .entry)) (now (words .entry))) (now (memory .entry))) .core)
-        × (now (memory .exit) ≡ arrivedIn time room pid extension (halfBuilt (now (memory .entry)) room size) (held (coreIn (now (times .entry)) (now (words .entry))) (now (memory .entry))) .memory)
+    ensures { λ r. ⌜ (coreIn (now (times .exit)) (now (words .exit)) ≡ arrivedIn (arrival time room pid) extension (halfBuilt (now (memory .entry)) room size) (held (coreIn (now (times .entry)) (now (words .entry))) (now (memory .entry))) .core)
+        × (now (memory .exit) ≡ arrivedIn (arrival time room pid) extension (halfBuilt (now (memory .entry)) room size) (held (coreIn (now (times .entry)) (now (words .entry))) (now (memory .entry))) .memory)
         × (r ≡ (eqb room patRoom && newList time (halfBuilt (now (memory .entry)) room size) (coreIn (now (times .entry)) (now (words .entry))) .bad)) ⌝ }
     ensures { λ r. ⌜ Moved (now (times .entry)) (now (words .entry)) (now (times .exit)) (now (words .exit)) × (countIn (now (words .exit)) ≤ mostListed) ⌝ }
 {
@@ -132,7 +133,7 @@ fn arrive(
 
 // The event of an outcome, if it has one, laid at the place n; the next place.
 fn put_outcome(numbers: &mut [u64], n: usize, time: u64, o: Outcome) -> usize
-    requires { ⌜ (n < leastRoom) × (numberRoom ≤ length (now numbers)) ⌝ }
+    requires { ⌜ (n < leastCapacity) × (numberCapacity ≤ length (now numbers)) ⌝ }
     ensures { λ r. ⌜ (r ≡ n + length (eventsOf time o)) × (now (numbers .exit) ≡ eventsLaid (now (numbers .entry)) n (eventsOf time o)) ⌝ }
 {
     match o {
@@ -145,7 +146,7 @@ fn put_outcome(numbers: &mut [u64], n: usize, time: u64, o: Outcome) -> usize
 
 // A good PAT with a bad list gives an event, laid at the place n; the next place.
 fn put_list(numbers: &mut [u64], n: usize, time: u64, pid: u16, bad: bool) -> usize
-    requires { ⌜ (n < leastRoom) × (numberRoom ≤ length (now numbers)) ⌝ }
+    requires { ⌜ (n < leastCapacity) × (numberCapacity ≤ length (now numbers)) ⌝ }
     ensures { λ r. ⌜ (r ≡ n + length (cond bad (eventAt time fault.patError fault.bad pid ∷ []) []))
         × (now (numbers .exit) ≡ eventsLaid (now (numbers .entry)) n (cond bad (eventAt time fault.patError fault.bad pid ∷ []) [])) ⌝ }
 {
@@ -170,8 +171,8 @@ pub(crate) fn act(
     n: usize,
 ) -> usize
     requires { ⌜ Sized (now times) (now words) × Fit (coreIn (now times) (now words)) (now memory) (now numbers) ⌝ }
-    requires { ⌜ (room < roomCount) × (roomBase room + size ≤ memorySize) × (n < leastRoom) ⌝ }
-    ensures { λ r. ⌜ Shown (acted time room pid stage (halfBuilt (now (memory .entry)) room size) (held (coreIn (now (times .entry)) (now (words .entry))) (now (memory .entry))))
+    requires { ⌜ (room < roomCount) × (roomBase room + size ≤ memorySize) × (n < leastCapacity) ⌝ }
+    ensures { λ r. ⌜ Shown (endActs time room pid stage (halfBuilt (now (memory .entry)) room size) (held (coreIn (now (times .entry)) (now (words .entry))) (now (memory .entry))))
         n (now (numbers .entry)) (now (numbers .exit)) (now (memory .exit)) (left (coreIn (now (times .exit)) (now (words .exit))) r) ⌝ }
     ensures { λ r. ⌜ Moved (now (times .entry)) (now (words .entry)) (now (times .exit)) (now (words .exit)) × (countIn (now (words .exit)) ≤ mostListed) × (r ≤ n + 1) ⌝ }
 {

@@ -8,22 +8,23 @@ ghost use mathlib.Core.Path.{_≡_};
 ghost use mathlib.Core.Bool.{true};
 ghost use Prim.Native.Nat.{_+_, _≤_, _<_};
 ghost use lib.ListN.{length};
-ghost use Rattle.events.specs.Room.{leastRoom};
+ghost use Rattle.events.specs.Capacity.{leastCapacity};
 ghost use Rattle.sections.specs.Rooms.{roomCount, greatestLength, halfBuilt};
 ghost use Rattle.sections.specs.Section.{stageOf, isMore};
-ghost use Rattle.sections.specs.Building.{fed};
+ghost use Rattle.sections.specs.Building.{goingOn, following, fed, begunJob};
 ghost use Rattle.programmes.specs.Listing.{mostListed};
-ghost use Rattle.calls.specs.Steps.{sectionsTaken};
-ghost use Rattle.arrays.specs.Lent.{countIn, coreIn, Sized, Moved};
-ghost use Rattle.payloads.specs.Taking.{held, Takable};
-ghost use Rattle.payloads.specs.Parts.{cameTo, newSections, goingOn, isBad, left, finished, Shown, went, Fit, Gone};
+ghost use Rattle.calls.specs.Steps.{arrival, sectionsTaken};
+ghost use Rattle.arrays.specs.Lent.{countIn, coreIn};
+ghost use Rattle.arrays.specs.inner.Kept.{Sized, Moved};
+ghost use Rattle.payloads.specs.inner.Taking.{held, Takable};
+ghost use Rattle.payloads.specs.inner.Parts.{cameTo, isBad, left, finished, Shown, went, Fit, Gone};
 
 // Where the half-built section went on: the next place for an event, the section's length, and whether the rest of
 // the payload is ignored.
 struct Resumed {
     n: usize,
     half: usize,
-    stopped: bool,
+    ignored: bool,
 }
 
 // Where new sections were built: the next place for an event, and the length of the one that is still half-built.
@@ -57,8 +58,8 @@ fn follow(
     n0: usize,
 ) -> Built
     requires { ⌜ Sized (now times) (now words) × Fit (coreIn (now times) (now words)) (now memory) (now numbers) ⌝ }
-    requires { ⌜ (room < roomCount) × (length (now s) ≤ 183) × (n0 + 61 ≤ leastRoom) ⌝ }
-    ensures { λ r. ⌜ Shown (cameTo time room pid (fed room (newSections (now (memory .entry))) (now (s .entry))) (held (coreIn (now (times .entry)) (now (words .entry))) (now (memory .entry))))
+    requires { ⌜ (room < roomCount) × (length (now s) ≤ 183) × (n0 + 61 ≤ leastCapacity) ⌝ }
+    ensures { λ r. ⌜ Shown (cameTo time room pid (fed following room (begunJob (now (memory .entry)) 0) (now (s .entry))) (held (coreIn (now (times .entry)) (now (words .entry))) (now (memory .entry))))
         n0 (now (numbers .entry)) (now (numbers .exit)) (now (memory .exit)) (finished room (r .half) (coreIn (now (times .exit)) (now (words .exit))) (r .n)) ⌝ }
     ensures { λ r. ⌜ Moved (now (times .entry)) (now (words .entry)) (now (times .exit)) (now (words .exit)) × (r .n ≤ n0 + 61) × (r .half < 65536) ⌝ }
 {
@@ -110,8 +111,8 @@ fn resume(
     n: usize,
 ) -> Resumed
     requires { ⌜ Sized (now times) (now words) × Fit (coreIn (now times) (now words)) (now memory) (now numbers) ⌝ }
-    requires { ⌜ (room < roomCount) × (length (now s) ≤ 184) × (n < leastRoom) × (isMore (stageOf (greatestLength room) (halfBuilt (now memory) room half)) ≡ true) ⌝ }
-    ensures { λ r. ⌜ Gone time room pid (fed room (goingOn (now (memory .entry)) half) (now (s .entry))) (coreIn (now (times .entry)) (now (words .entry)))
+    requires { ⌜ (room < roomCount) × (length (now s) ≤ 184) × (n < leastCapacity) × (isMore (stageOf (greatestLength room) (halfBuilt (now memory) room half)) ≡ true) ⌝ }
+    ensures { λ r. ⌜ Gone time room pid (fed goingOn room (begunJob (now (memory .entry)) half) (now (s .entry))) (coreIn (now (times .entry)) (now (words .entry)))
         n (now (numbers .entry)) (now (numbers .exit)) (now (memory .exit)) (went (coreIn (now (times .exit)) (now (words .exit))) r) ⌝ }
     ensures { λ r. ⌜ Moved (now (times .entry)) (now (words .entry)) (now (times .exit)) (now (words .exit)) × (countIn (now (words .exit)) ≤ mostListed) × (r .n ≤ n + 1) × (r .half ≤ 4096) ⌝ }
 {
@@ -119,7 +120,7 @@ fn resume(
         return Resumed {
             n: n,
             half: 0,
-            stopped: false,
+            ignored: false,
         };
     }
     let l = sections::lay(memory, room, half, s);
@@ -128,7 +129,7 @@ fn resume(
         return Resumed {
             n: n,
             half: l.length,
-            stopped: false,
+            ignored: false,
         };
     }
     let next = arrivals::act(
@@ -146,7 +147,7 @@ fn resume(
     Resumed {
         n: next,
         half: 0,
-        stopped: is_bad(stage),
+        ignored: is_bad(stage),
     }
 }
 
@@ -164,7 +165,7 @@ pub fn take_payload(
     n: usize,
 ) -> usize
     requires { ⌜ Sized (now times) (now words) × Takable (coreIn (now times) (now words)) (now memory) room (now payload) n (now numbers) ⌝ }
-    ensures { λ r. ⌜ Shown (sectionsTaken time room pid start (now (payload .entry)) (held (coreIn (now (times .entry)) (now (words .entry))) (now (memory .entry))))
+    ensures { λ r. ⌜ Shown (sectionsTaken (arrival time room pid) start (now (payload .entry)) (held (coreIn (now (times .entry)) (now (words .entry))) (now (memory .entry))))
         n (now (numbers .entry)) (now (numbers .exit)) (now (memory .exit)) (left (coreIn (now (times .exit)) (now (words .exit))) r) ⌝ }
     ensures { λ r. ⌜ Moved (now (times .entry)) (now (words .entry)) (now (times .exit)) (now (words .exit)) × (r ≤ n + 62) ⌝ }
 {
@@ -202,7 +203,7 @@ pub fn take_payload(
         numbers,
         n,
     );
-    if g.stopped {
+    if g.ignored {
         arrays::set_half(words, room, 0);
         return g.n;
     }

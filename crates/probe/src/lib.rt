@@ -31,8 +31,16 @@ pub fn packet(
         r (now (counters .exit)) (now (memory .exit)) (now (events .entry)) (now (events .exit)) ⌝ }
 {
     let mut numbers = [0u64; NUMBERS];
-    let room = events.len();
-    let out = engine::packet_at(state, time, packet, counters, memory, room, &mut numbers);
+    let capacity = events.len();
+    let out = engine::packet_at(
+        state,
+        time,
+        packet,
+        counters,
+        memory,
+        capacity,
+        &mut numbers,
+    );
     let n = out.n;
     records::hand_over(&numbers, n, events);
     out
@@ -43,8 +51,8 @@ pub fn clock(state: State, time: u64, memory: &[u8; MEMORY], events: &mut [Event
     ensures { λ r. ⌜ ClockDone (clockCall state time (now (memory .entry)) (length (now (events .entry)))) r (now (events .entry)) (now (events .exit)) ⌝ }
 {
     let mut numbers = [0u64; NUMBERS];
-    let room = events.len();
-    let out = engine::clock_at(state, time, memory, room, &mut numbers);
+    let capacity = events.len();
+    let out = engine::clock_at(state, time, memory, capacity, &mut numbers);
     let n = out.n;
     records::hand_over(&numbers, n, events);
     out

@@ -4,3 +4,4 @@ pub mod Reading
 pub mod Moves
 pub mod Moved
 pub mod Empty
+pub mod Examples

@@ -2,13 +2,13 @@
 use mathlib.Core.Path.{_≡_, refl, sym, ap, _∙_}
 use mathlib.Core.Logic.{_≢_}
 use mathlib.Core.Bool.{Bool, true, false, cond, _&&_}
-use mathlib.Core.List.{List, [], _∷_, _++_, append-nil}
+use mathlib.Core.List.{List, [], _∷_, _++_, map, append-nil}
 use Prim.Native.Nat.{ℕ, zero, suc, _+_, _-_, _≤_, _<_}
 use native.Mathlib.Nat.{add-zero, le-of-suc-le-suc, not-suc-le-zero}
 use native.Mathlib.Numerals.{add-one}
 use native.Mathlib.Omega.{arith}
 use lib.Dec.{ltb, eqb}
-use lib.ListN.{length, getD, set, take, drop-of-length-le, length-append}
+use lib.ListN.{length, getD, set, take, drop-of-length-le, length-append, List·getD-append}
 use lib.Seq.{sets, set-getD, getD-take, getD-append-add, length-take-le, sets-eq}
 use borrow.Author.Tests.{lt-ltb, le-ltb, eq-eqb, ne-eqb, ltb-true}
 use Rattle.lists.specs.Places.{part}
@@ -20,8 +20,9 @@ use Rattle.watches.specs.Tables.{noEntry}
 use Rattle.sections.specs.Rooms.{memorySize, roomOfPlace, roomBase, halfBuilt}
 use Rattle.sections.proofs.Stages.{place-fits}
 use Rattle.programmes.proofs.Empty.{none-places}
-use Rattle.programmes.specs.Places.{noneHalf, placeOf, isListed, pidAt, isFirst, halfAt, movedHalf, movedFrom, movedHalves, movedPlace, movedPlaces, movedBytes}
-use Rattle.programmes.specs.Moving.{Placed, Stayed}
+use Rattle.programmes.specs.Places.{noneHalf, placeOf, isListed, pidAt, isFirst, halfAt, placesFrom, everyPlace, stoodIn, movedHalf, movedHalves, movedSection, roomsLaid, movedBytes}
+use Rattle.programmes.specs.inner.Moving.{sectionAt, Placed, Stayed}
+use Rattle.programmes.proofs.Moved.{roomLaid, laid-back, rooms-alike}
 
 -- the PID of a listed place
 pub pid-listed : (new : List Entry) (d k : ℕ) → k < d → pidAt (take d new) k ≡ getD new k noEntry .pid
@@ -61,37 +62,51 @@ module _ (old new : List Entry) (c d : ℕ) (ns : List ℕ) (k : ℕ) (within : 
         lt-ltb (placeOf pidHere (take c old)) c g,
       )
 
--- ALL PLACES, one after the other
-module _ (old new : List Entry) (ns : List ℕ) where
-  from-suc : (k left : ℕ) → movedFrom old new ns k (suc left) ≡ movedFrom old new ns k left ++ (movedHalf old new ns (k + left) ∷ [])
-  unfolding movedFrom
+-- ALL PLACES, one after the other: the number f k for each place k
+module _ (f : ℕ → ℕ) where
+  from-suc : (k left : ℕ) → map f (placesFrom k (suc left)) ≡ map f (placesFrom k left) ++ (f (k + left) ∷ [])
+  unfolding placesFrom
   from-suc k zero = rw (add-zero k)
   from-suc k (suc left) =
       let e : k + 1 + left ≡ k + suc left = omega arith in
-      ap (λ z. movedHalf old new ns k ∷ z) (from-suc (k + 1) left ∙ ap (λ i. movedFrom old new ns (k + 1) left ++ (movedHalf old new ns i ∷ [])) e)
+      ap (λ z. f k ∷ z) (from-suc (k + 1) left ∙ ap (λ i. map f (placesFrom (k + 1) left) ++ (f i ∷ [])) e)
 
-  pub from-length : (k left : ℕ) → length (movedFrom old new ns k left) ≡ left
-  unfolding movedFrom
+  from-length : (k left : ℕ) → length (map f (placesFrom k left)) ≡ left
+  unfolding placesFrom
   from-length k zero = refl
   from-length k (suc left) = ap suc (from-length (k + 1) left)
 
-  pub halves-length : length ns ≡ 21 → length (movedHalves old new ns) ≡ 21
-  halves-length e = length-append (take 5 ns) (movedFrom old new ns 0 16) ∙ omega (arith, length-take-le 5 ns (omega arith), from-length 0 16)
+  from-at : (j left i : ℕ) → i < left → getD (map f (placesFrom j left)) i 0 ≡ f (j + i)
+  unfolding placesFrom
+  from-at j zero i h = absurd (not-suc-le-zero h)
+  from-at j (suc left) zero h = rw (add-zero j)
+  from-at j (suc left) (suc i) h =
+      let e : j + 1 + i ≡ j + suc i = omega arith in
+      from-at (j + 1) left i (le-of-suc-le-suc h) ∙ ap f e
 
-  pub halves-begin : sets ns 5 (movedFrom old new ns 0 0) ≡ ns
-  unfolding movedFrom
+module _ (old new : List Entry) (ns : List ℕ) where
+  -- the lengths of the first k places
+  abbrev pub movedFirst : ℕ → List ℕ
+  movedFirst k = map (movedHalf old new ns) (placesFrom 0 k)
+
+  pub halves-length : length ns ≡ 21 → length (movedHalves old new ns) ≡ 21
+  halves-length e =
+      length-append (take 5 ns) (movedFirst 16) ∙ omega (arith, length-take-le 5 ns (omega arith), from-length (movedHalf old new ns) 0 16)
+
+  pub halves-begin : sets ns 5 (movedFirst 0) ≡ ns
+  unfolding placesFrom
   halves-begin = refl
 
-  pub halves-turn : (k : ℕ) → set (sets ns 5 (movedFrom old new ns 0 k)) (5 + k) (movedHalf old new ns k) ≡ sets ns 5 (movedFrom old new ns 0 (k + 1))
+  pub halves-turn : (k : ℕ) → set (sets ns 5 (movedFirst k)) (5 + k) (movedHalf old new ns k) ≡ sets ns 5 (movedFirst (k + 1))
   halves-turn k =
       let z : 0 + k ≡ k = omega arith in
-      rw (add-one k, from-suc 0 k, z, sets-append ns 5 (movedFrom old new ns 0 k) (movedHalf old new ns k ∷ []), from-length 0 k)
+      rw (add-one k, from-suc (movedHalf old new ns) 0 k, z, sets-append ns 5 (movedFirst k) (movedHalf old new ns k ∷ []), from-length (movedHalf old new ns) 0 k)
 
-  pub halves-end : length ns ≡ 21 → sets ns 5 (movedFrom old new ns 0 16) ≡ movedHalves old new ns
+  pub halves-end : length ns ≡ 21 → sets ns 5 (movedFirst 16) ≡ movedHalves old new ns
   halves-end e =
-      sets-eq (movedFrom old new ns 0 16) ns 5 (omega (arith, from-length 0 16))
-      ∙ ap (λ z. take 5 ns ++ movedFrom old new ns 0 16 ++ z) (drop-of-length-le ns {i = 5 + length (movedFrom old new ns 0 16)} (omega (arith, from-length 0 16)))
-      ∙ append-nil (take 5 ns ++ movedFrom old new ns 0 16)
+      sets-eq (movedFirst 16) ns 5 (omega (arith, from-length (movedHalf old new ns) 0 16))
+      ∙ ap (λ z. take 5 ns ++ movedFirst 16 ++ z) (drop-of-length-le ns {i = 5 + length (movedFirst 16)} (omega (arith, from-length (movedHalf old new ns) 0 16)))
+      ∙ append-nil (take 5 ns ++ movedFirst 16)
 
 -- A PLACE WITH HALF-BUILT BYTES is listed, and was listed before
 half-some : (a b : Bool) (x : ℕ) → 0 < cond (a && b) x 0 → (a ≡ true) × (b ≡ true) × (cond (a && b) x 0 ≡ x)
@@ -100,20 +115,15 @@ half-some true false x h = absurd (omega arith)
 half-some false b x h = absurd (omega arith)
 
 module _ (old new : List Entry) (ns : List ℕ) (enough : 5 ≤ length ns) where
-  from-at : (j left i : ℕ) → i < left → getD (movedFrom old new ns j left) i 0 ≡ movedHalf old new ns (j + i)
-  unfolding movedFrom
-  from-at j zero i h = absurd (not-suc-le-zero h)
-  from-at j (suc left) zero h = rw (add-zero j)
-  from-at j (suc left) (suc i) h =
-      let e : j + 1 + i ≡ j + suc i = omega arith in
-      from-at (j + 1) left i (le-of-suc-le-suc h) ∙ ap (movedHalf old new ns) e
+  pub halves-fixed : (r : ℕ) → r < 5 → halfAt (movedHalves old new ns) r ≡ halfAt ns r
+  halves-fixed r h = List·getD-append (take 5 ns) (map (movedHalf old new ns) everyPlace) 0 r (omega (arith, length-take-le 5 ns enough)) ∙ getD-take 5 ns r 0 h
 
   pub halves-at : (k : ℕ) → k < 16 → halfAt (movedHalves old new ns) (roomOfPlace k) ≡ movedHalf old new ns k
   halves-at k h =
       let z : 0 + k ≡ k = omega arith in
-      ap (λ i. getD (movedHalves old new ns) (i + k) 0) (sym (length-take-le 5 ns enough))
-      ∙ getD-append-add (take 5 ns) (movedFrom old new ns 0 16) k 0
-      ∙ from-at 0 16 k h
+      ap (λ i. getD (take 5 ns ++ movedFirst old new ns 16) (i + k) 0) (sym (length-take-le 5 ns enough))
+      ∙ getD-append-add (take 5 ns) (movedFirst old new ns 16) k 0
+      ∙ from-at (movedHalf old new ns) 0 16 k h
       ∙ ap (movedHalf old new ns) z
 
   pub placed : length old ≤ 16 → ((k : ℕ) → k < 16 → halfAt ns (roomOfPlace k) ≤ 1024) → Placed old new (movedHalves old new ns)
@@ -138,10 +148,10 @@ module _ (old new : List Entry) (ns : List ℕ) (most : length old ≤ 16) (none
           let s = half-some (isFirst new k) (isListed (pidAt new k) old) (halfAt ns (roomOfPlace (placeOf (pidAt new k) old))) some in
           s .2 ∙ none (placeOf (pidAt new k) old) (omega (arith, ltb-true (placeOf (pidAt new k) old) (length old) (s .1)))
 
-  laid-none : (k : ℕ) → k ≤ 16 → sets ns 5 (movedFrom old new ns 0 k) ≡ ns
+  laid-none : (k : ℕ) → k ≤ 16 → sets ns 5 (movedFirst old new ns k) ≡ ns
   laid-none zero h = halves-begin old new ns
   laid-none (suc k) h =
-      ap (λ n. sets ns 5 (movedFrom old new ns 0 n)) (sym (add-one k))
+      ap (λ n. sets ns 5 (movedFirst old new ns n)) (sym (add-one k))
       ∙ sym (halves-turn old new ns k)
       ∙ ap (λ z. set z (5 + k) (movedHalf old new ns k)) (laid-none k (omega arith))
       ∙ ap (set ns (5 + k)) (half-none k ∙ sym (none k h))
@@ -164,52 +174,34 @@ stayed-turn old new d ns k l s here j h some = go (order j k)
         ∙ here (rw e at some)
         ∙ sym e
 
--- a place past the list has no half-built bytes
-pub past-none : (old new : List Entry) (ns : List ℕ) (k : ℕ) → Placed old new ns → length new ≤ k → k < 16 → halfAt ns (roomOfPlace k) ≡ 0
-past-none old new ns k p past h = go (order 0 (halfAt ns (roomOfPlace k)))
-  where
-    go : Order 0 (halfAt ns (roomOfPlace k)) → halfAt ns (roomOfPlace k) ≡ 0
-    go (from none) = omega arith
-    go (below some) = absurd (omega (arith, p k h some .listed))
-
--- BYTES MOVED, one place after the other
+-- BYTES THAT STAND WHERE THEY ARE LAID: there are none, or they stay
 module _ (old new : List Entry) (ns m₀ : List ℕ) where
-  pub places-turn : (k : ℕ) (m : List ℕ) → k < 16
-      → movedPlaces old new ns m₀ k (16 - k) m ≡ movedPlaces old new ns m₀ (k + 1) (16 - (k + 1)) (movedPlace old new ns m₀ k m)
-  unfolding movedPlaces
-  places-turn k m h =
-      let e : 16 - k ≡ suc (16 - (k + 1)) = omega arith in
-      ap (λ left. movedPlaces old new ns m₀ k left m) e
-
-  pub place-empty : (k : ℕ) (m : List ℕ) → halfAt ns (roomOfPlace k) ≡ 0 → movedPlace old new ns m₀ k m ≡ m
+  none-back : (k : ℕ) (m : List ℕ) → halfAt ns (roomOfPlace k) ≡ 0 → roomLaid (sectionAt old new ns m₀) k m ≡ m
   unfolding part
-  place-empty k m e = rw e
+  none-back k m e = rw e
 
-  -- places without half-built bytes leave memory as it is
-  pub places-none : (k left : ℕ) (m : List ℕ) → ((j : ℕ) → k ≤ j → j < k + left → halfAt ns (roomOfPlace j) ≡ 0) → movedPlaces old new ns m₀ k left m ≡ m
-  unfolding movedPlaces
-  places-none k zero m none = refl
-  places-none k (suc left) m none =
-      ap (movedPlaces old new ns m₀ (k + 1) left) (place-empty k m (none k (omega arith) (omega arith)))
-      ∙ places-none (k + 1) left m (λ j g h. none j (omega arith) (omega arith))
+  pub past-back : Placed old new ns → (k : ℕ) (m : List ℕ) → length new ≤ k → k < 16 → roomLaid (sectionAt old new ns m₀) k m ≡ m
+  past-back p k m past h = go (order 0 (halfAt ns (roomOfPlace k)))
+    where
+      go : Order 0 (halfAt ns (roomOfPlace k)) → roomLaid (sectionAt old new ns m₀) k m ≡ m
+      go (from none) = none-back k m (omega arith)
+      go (below some) = absurd (omega (arith, p k h some .listed))
 
--- and so do places that stay
-pub places-stayed : (old new : List Entry) (ns m : List ℕ) (k left : ℕ) → length m ≡ memorySize → k + left ≤ 16
-    → Placed old new ns → Stayed old new ns (length new) → movedPlaces old new ns m k left m ≡ m
-unfolding movedPlaces
-places-stayed old new ns m k zero l h p s = refl
-places-stayed old new ns m k (suc left) l h p s =
-    ap (movedPlaces old new ns m (k + 1) left) (go (order 0 (halfAt ns (roomOfPlace k))))
-    ∙ places-stayed old new ns m (k + 1) left l (omega arith) p s
-  where
-    go : Order 0 (halfAt ns (roomOfPlace k)) → movedPlace old new ns m k m ≡ m
-    go (from none) = place-empty old new ns m k m (omega arith)
-    go (below some) =
-        let q = p k (omega arith) some in
-        let e = s k (q .listed) some in
-        let fits = place-fits k (omega arith) in
-        ap (λ r. sets m (roomBase (roomOfPlace k)) (halfBuilt m (roomOfPlace r) (halfAt ns (roomOfPlace k)))) e
-        ∙ part-back m (roomBase (roomOfPlace k)) (halfAt ns (roomOfPlace k)) (omega (arith, q .fits, fits))
+  pub stayed-back : length m₀ ≡ memorySize → Placed old new ns → Stayed old new ns (length new) → (k : ℕ) → k < 16 → roomLaid (sectionAt old new ns m₀) k m₀ ≡ m₀
+  stayed-back l p s k h = go (order 0 (halfAt ns (roomOfPlace k)))
+    where
+      go : Order 0 (halfAt ns (roomOfPlace k)) → roomLaid (sectionAt old new ns m₀) k m₀ ≡ m₀
+      go (from none) = none-back k m₀ (omega arith)
+      go (below some) =
+          let q = p k h some in
+          ap (λ r. sets m₀ (roomBase (roomOfPlace k)) (halfBuilt m₀ (roomOfPlace r) (halfAt ns (roomOfPlace k)))) (s k (q .listed) some)
+          ∙ part-back m₀ (roomBase (roomOfPlace k)) (halfAt ns (roomOfPlace k)) (omega (arith, q .fits, place-fits k h))
+
+-- the bytes of a list read are those of its lengths
+pub bytes-at : (old new : List Entry) (ns m : List ℕ) → 5 ≤ length ns
+    → movedBytes old new ns m ≡ roomsLaid (sectionAt old new (movedHalves old new ns) m) everyPlace m
+bytes-at old new ns m enough =
+    rooms-alike (movedSection old new ns m) (sectionAt old new (movedHalves old new ns) m) (λ k h. ap (halfBuilt m (stoodIn old new k)) (sym (halves-at old new ns enough k h))) m
 
 -- WHERE NOTHING IS HALF-BUILT in the rooms of the list, neither lengths nor bytes move
 module _ (old new : List Entry) (ns : List ℕ) (most : length old ≤ 16) (long : length ns ≡ 21) (none : noneHalf (part ns 5 16) ≡ true) where
@@ -217,4 +209,7 @@ module _ (old new : List Entry) (ns : List ℕ) (most : length old ≤ 16) (long
   halves-same = halves-none old new ns most (none-places ns none) long
 
   pub bytes-same : (m : List ℕ) → movedBytes old new ns m ≡ m
-  bytes-same m = ap (λ (z : List ℕ). movedPlaces old new z m 0 16 m) halves-same ∙ places-none old new ns m 0 16 m (λ j g h. none-places ns none j h)
+  unfolding part
+  bytes-same m =
+      laid-back (movedSection old new ns m) 0 16 m
+      (λ k g h. ap (λ n. sets m (roomBase (roomOfPlace k)) (halfBuilt m (stoodIn old new k) n)) (half-none old new ns most (none-places ns none) k))

@@ -14,7 +14,7 @@ use Rattle.watches.specs.declared.Entry.{Entry}
 use Rattle.programmes.specs.declared.Listed.{Listed}
 use Rattle.programmes.specs.declared.Addition.{Addition}
 use Rattle.programmes.specs.Listing.{isNumber, pidUnusable, mostListed, entryFor, entered, madeBad, listedWith, readOn}
-use Rattle.programmes.specs.Reading.{numberAt, pidIn, seenTo, marked, added}
+use Rattle.programmes.specs.inner.Reading.{numberAt, pidIn, seenTo, badWhere, withAddition}
 
 -- A NUMBER SEEN EARLIER: the nearest entry before, or one before that
 pub seen-turn : (n : ℕ) (e : List ℕ) (i : ℕ) → 0 < i → isNumber n (seenTo e i) ≡ (eqb (numberAt e (i - 1)) n || isNumber n (seenTo e (i - 1)))
@@ -30,10 +30,10 @@ seen-none n e i h =
     ap (λ k. isNumber n (seenTo e k)) q
 
 -- A MARK that says nothing, and one that makes the list bad
-pub marked-none : (l : Listed) → marked false l ≡ l
+pub marked-none : (l : Listed) → badWhere false l ≡ l
 marked-none l = ap (λ b. record { count = l .count; bad = b; entries = l .entries }) (or-false (l .bad))
 
-pub marked-bad : (l : Listed) → marked true l ≡ madeBad l
+pub marked-bad : (l : Listed) → badWhere true l ≡ madeBad l
 marked-bad l = ap (λ b. record { count = l .count; bad = b; entries = l .entries }) (or-true (l .bad))
 
 -- a test and its opposite
@@ -57,21 +57,21 @@ module _ (t : ℕ) (old : List Entry) (seen : List ℕ) (n q c : ℕ) (usable : 
   grounds : (l : Listed) → l .count ≡ c → groundsOf seen n q (l .count) ≡ not usable
   grounds l e = ap (groundsOf seen n q) e ∙ opposite (groundsOf seen n q c) usable (sym says)
 
-  pub entered-bad : usable ≡ false → (l : Listed) → l .count ≡ c → entered t old seen n q l ≡ marked true l
+  pub entered-bad : usable ≡ false → (l : Listed) → l .count ≡ c → entered t old seen n q l ≡ badWhere true l
   entered-bad u l e = rw (some, grounds l e, u) (sym (marked-bad l))
 
   pub entered-listed : usable ≡ true → (l : Listed) → l .count ≡ c
-      → entered t old seen n q l ≡ listedWith (entryFor t old n q) (marked false l)
+      → entered t old seen n q l ≡ listedWith (entryFor t old n q) (badWhere false l)
   entered-listed u l e =
       rw (some, grounds l e, u) (ap (listedWith (entryFor t old n q)) (sym (marked-none l)))
 
 -- the list with what an entry adds, by whether it is listed: at most sixteen are
 pub added-turn : (r : Addition) (l next : Listed) → l .count ≤ 16 → (r .listed ≡ true → l .count < 16)
-    → (b : Bool) → r .listed ≡ b → next ≡ cond b (listedWith (r .entry) (marked (r .bad) l)) (marked (r .bad) l) → (next ≡ added r l) × (next .count ≤ 16)
+    → (b : Bool) → r .listed ≡ b → next ≡ cond b (listedWith (r .entry) (badWhere (r .bad) l)) (badWhere (r .bad) l) → (next ≡ withAddition r l) × (next .count ≤ 16)
 added-turn r l next most room b e q =
-    (q ∙ ap (λ z. cond z (listedWith (r .entry) (marked (r .bad) l)) (marked (r .bad) l)) (sym e), go b e (ap (λ (z : Listed). z .count) q))
+    (q ∙ ap (λ z. cond z (listedWith (r .entry) (badWhere (r .bad) l)) (badWhere (r .bad) l)) (sym e), go b e (ap (λ (z : Listed). z .count) q))
   where
-    go : (b : Bool) → r .listed ≡ b → next .count ≡ cond b (listedWith (r .entry) (marked (r .bad) l)) (marked (r .bad) l) .count → next .count ≤ 16
+    go : (b : Bool) → r .listed ≡ b → next .count ≡ cond b (listedWith (r .entry) (badWhere (r .bad) l)) (badWhere (r .bad) l) .count → next .count ≤ 16
     go true e n = omega (arith, room e)
     go false e n = omega arith
 

@@ -1,4 +1,3 @@
 pub mod Listing
-pub mod Reading
 pub mod Places
-pub mod Moving
+pub mod inner

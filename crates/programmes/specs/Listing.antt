@@ -1,15 +1,18 @@
 -- The list in a good PAT section: document 01, "The programme list". t is the section's arrival, old the list just replaced.
 --
+--   mostListed, lowestPid, nullPid == sixteen; 0x0020; 0x1FFF
 --   numberOf a b, entryPid c d == programme number and PID of an entry's four bytes
 --   entriesOf s      == the bytes of the entries: those of the section but its first eight and its CRC_32
 --   isNumber n es    == n is among these numbers
 --   pidUnusable q    == a PID below 0x0020 or equal to 0x1FFF
+--   isPair n q e     == the entry e is the pair of number n and PID q
 --   entryFor t old n q == a pair of number and PID that was listed before keeps its watch: its whole old entry; a new pair begins one at this
 --                       arrival
 --   listedWith, madeBad == the list with one entry more; the list made bad, the entry ignored
 --   entered          == one entry: programme 0 is passed over; one with an unusable PID, with a number seen earlier in the section, or past the
 --                       sixteenth usable one makes the list bad
 --   readOn           == the entries from here on; one to three spare bytes at the end make the list bad
+--   noneListed       == the list before its first entry
 --   listOf t old s   == the list of the section s
 use Prim.Native.Nat.{ℕ, _+_, _-_, _*_, _%_}
 use mathlib.Core.Bool.{Bool, true, false, cond, _&&_, _||_}

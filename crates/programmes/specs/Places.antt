@@ -1,17 +1,25 @@
 -- Half-built sections of PMT PIDs when a list is read: document 01, "The programme list" ("A PID no longer listed loses its half-built
 -- section"), and docs/DECISIONS.md, F4: the room of a PID is that of the first place with it, and its bytes move with it. old and new are
--- the two lists, each of its listed entries.
+-- the two lists, each of its listed entries; ns are the half-built lengths of all rooms and m is section memory, both under the old list.
 --
 --   placeOf q es     == the first place with the PID q, or the length of the list where there is none
---   isFirst k q es   == the place k is the first with its PID q
+--   isListed q es    == the PID q is listed
+--   pidAt es k       == the PID of the place k
+--   isFirst es k     == the place k is listed, and the first with its PID
 --   halfAt ns r      == the half-built length of the room r
 --   noneHalf ns      == of these half-built lengths each is 0
---   movedHalf old new ns k == the half-built length of the place k of the new list: that of the PID's place in the old one, else 0
---   movedHalves      == all half-built lengths: those of the fixed rooms as they were, then those of the sixteen places
---   movedBytes       == section memory, the half-built bytes of each place of the new list taken from where they stood in the old one
+--   placesFrom k n   == n places from the place k on
+--   everyPlace       == the sixteen places of a list
+--   keepsAt old new k == the place k of the new list has a half-built section to keep: it is the first with its PID, and the PID was listed before
+--   stoodIn old new k == the room where that section stood: the one of the PID's first place in the old list
+--   movedHalf old new ns k == the half-built length of the place k of the new list: that of the section to keep; 0 where there is none
+--   movedHalves old new ns == all half-built lengths: those of the fixed rooms as they were, then those of the sixteen places
+--   movedSection old new ns m k == the half-built bytes of the place k of the new list, as they stood in the memory m
+--   roomsLaid sections ks m == section memory, where the room of each place k of ks begins with the bytes sections k
+--   movedBytes old new ns m == section memory, where the room of each place of the new list begins with its half-built bytes
 use Prim.Native.Nat.{ℕ, zero, suc, _+_}
 use mathlib.Core.Bool.{Bool, true, cond, _&&_}
-use mathlib.Core.List.{List, [], _∷_, _++_}
+use mathlib.Core.List.{List, [], _∷_, _++_, map, foldl}
 use lib.Dec.{ltb, eqb}
 use lib.ListN.{length, getD, take}
 use lib.Seq.{sets}
@@ -40,25 +48,32 @@ unfoldable pub noneHalf : List ℕ → Bool
 noneHalf [] = true
 noneHalf (n ∷ ns) = eqb n 0 && noneHalf ns
 
-abbrev pub movedHalf : List Entry → List Entry → List ℕ → ℕ → ℕ
-movedHalf old new ns k =
-    cond (isFirst new k && isListed (pidAt new k) old) (halfAt ns (roomOfPlace (placeOf (pidAt new k) old))) 0
+unfoldable pub placesFrom : ℕ → ℕ → List ℕ
+placesFrom k zero = []
+placesFrom k (suc n) = k ∷ placesFrom (k + 1) n
 
-unfoldable pub movedFrom : List Entry → List Entry → List ℕ → ℕ → ℕ → List ℕ
-movedFrom old new ns k zero = []
-movedFrom old new ns k (suc left) = movedHalf old new ns k ∷ movedFrom old new ns (k + 1) left
+abbrev pub everyPlace : List ℕ
+everyPlace = placesFrom 0 mostListed
+
+-- LENGTHS
+abbrev pub keepsAt : List Entry → List Entry → ℕ → Bool
+keepsAt old new k = isFirst new k && isListed (pidAt new k) old
+
+abbrev pub stoodIn : List Entry → List Entry → ℕ → ℕ
+stoodIn old new k = roomOfPlace (placeOf (pidAt new k) old)
+
+abbrev pub movedHalf : List Entry → List Entry → List ℕ → ℕ → ℕ
+movedHalf old new ns k = cond (keepsAt old new k) (halfAt ns (stoodIn old new k)) 0
 
 abbrev pub movedHalves : List Entry → List Entry → List ℕ → List ℕ
-movedHalves old new ns = take fixedCount ns ++ movedFrom old new ns 0 mostListed
+movedHalves old new ns = take fixedCount ns ++ map (movedHalf old new ns) everyPlace
 
--- the place k of the new list, its bytes taken from the memory m₀ that was there before any moved; ns are the new half-built lengths
-abbrev pub movedPlace : List Entry → List Entry → List ℕ → List ℕ → ℕ → List ℕ → List ℕ
-movedPlace old new ns m₀ k m =
-    sets m (roomBase (roomOfPlace k)) (halfBuilt m₀ (roomOfPlace (placeOf (pidAt new k) old)) (halfAt ns (roomOfPlace k)))
+-- BYTES
+abbrev pub movedSection : List Entry → List Entry → List ℕ → List ℕ → ℕ → List ℕ
+movedSection old new ns m k = halfBuilt m (stoodIn old new k) (movedHalf old new ns k)
 
-unfoldable pub movedPlaces : List Entry → List Entry → List ℕ → List ℕ → ℕ → ℕ → List ℕ → List ℕ
-movedPlaces old new ns m₀ k zero m = m
-movedPlaces old new ns m₀ k (suc left) m = movedPlaces old new ns m₀ (k + 1) left (movedPlace old new ns m₀ k m)
+abbrev pub roomsLaid : (ℕ → List ℕ) → List ℕ → List ℕ → List ℕ
+roomsLaid sections ks m = foldl (λ z k. sets z (roomBase (roomOfPlace k)) (sections k)) m ks
 
 abbrev pub movedBytes : List Entry → List Entry → List ℕ → List ℕ → List ℕ
-movedBytes old new ns m = movedPlaces old new (movedHalves old new ns) m 0 16 m
+movedBytes old new ns m = roomsLaid (movedSection old new ns m) everyPlace m

@@ -15,9 +15,9 @@ ghost use Rattle.lists.specs.Places.{part};
 ghost use Rattle.watches.specs.Tables.{fixedCount};
 ghost use Rattle.sections.specs.Rooms.{memorySize, roomCount, roomOfPlace, roomBase, halfBuilt};
 ghost use Rattle.programmes.specs.Listing.{isPair, entryFor, isNumber, pidUnusable, mostListed, entered, noneListed, readOn, listOf};
-ghost use Rattle.programmes.specs.Reading.{numberAt, pidIn, seenTo, added};
-ghost use Rattle.programmes.specs.Places.{placeOf, halfAt, noneHalf, movedHalf, movedHalves, movedPlaces, movedBytes};
-ghost use Rattle.programmes.specs.Moving.{Placed, Stayed};
+ghost use Rattle.programmes.specs.inner.Reading.{numberAt, pidIn, seenTo, withAddition};
+ghost use Rattle.programmes.specs.Places.{placeOf, halfAt, noneHalf, everyPlace, movedHalf, movedHalves, roomsLaid, movedBytes};
+ghost use Rattle.programmes.specs.inner.Moving.{sectionAt, Placed, Stayed};
 
 // The list of a good PAT section: how many programmes are listed, whether the list is bad, and sixteen
 // entries by value, of which the first `count` are listed.
@@ -124,7 +124,7 @@ fn read_one(
     k: usize,
 ) -> Addition
     requires { ⌜ («old_count» ≤ mostListed) × (4 * k ≤ length (now e)) ⌝ }
-    ensures { λ r. ⌜ ((l : Listed) → l .count ≡ count → entered t (take «old_count» old) (seenTo (now (e .entry)) k) (numberAt (now (e .entry)) k) (pidIn (now (e .entry)) k) l ≡ added r l)
+    ensures { λ r. ⌜ ((l : Listed) → l .count ≡ count → entered t (take «old_count» old) (seenTo (now (e .entry)) k) (numberAt (now (e .entry)) k) (pidIn (now (e .entry)) k) l ≡ withAddition r l)
         × (r .listed ≡ true → count < mostListed) ⌝ }
 {
     let number = number_at(e, k);
@@ -285,7 +285,7 @@ fn move_room(mem: &mut [u8], saved: &[u8], to: usize, from: usize, n: usize)
 }
 
 // Whether half-built bytes of the place k, if there are any, stand there already.
-fn keeps(old: [Entry; MOST_LISTED], old_count: usize, pid: u16, n: u16, k: usize) -> bool
+fn stays_at(old: [Entry; MOST_LISTED], old_count: usize, pid: u16, n: u16, k: usize) -> bool
     requires { ⌜ «old_count» ≤ mostListed ⌝ }
     ensures { λ r. ⌜ (r ≡ true → 0 < n → placeOf pid (take «old_count» old) ≡ k) ⌝ }
 {
@@ -309,7 +309,7 @@ fn stays(
     let mut k: usize = 0;
     while k < new_count {
         let e = new[k];
-        if !keeps(old, old_count, e.pid, half[FIXED + k], k) {
+        if !stays_at(old, old_count, e.pid, half[FIXED + k], k) {
             return false;
         }
         k += 1;
@@ -351,7 +351,7 @@ fn move_places(
 )
     requires { ⌜ (length (now mem) ≡ memorySize) × («old_count» ≤ mostListed) × («new_count» ≤ mostListed) ⌝ }
     requires { ⌜ Placed (take «old_count» old) (take «new_count» new) half ⌝ }
-    ensures { λ _. ⌜ now (mem .exit) ≡ movedPlaces (take «old_count» old) (take «new_count» new) half (now (mem .entry)) 0 16 (now (mem .entry)) ⌝ }
+    ensures { λ _. ⌜ now (mem .exit) ≡ roomsLaid (sectionAt (take «old_count» old) (take «new_count» new) half (now (mem .entry))) everyPlace (now (mem .entry)) ⌝ }
 {
     let saved = *mem;
     let mut k: usize = 0;

@@ -22,13 +22,13 @@ use Rattle.programmes.specs.Places.{isListed}
 use Rattle.calls.specs.declared.State.{State}
 use Rattle.calls.specs.Cores.{Held, listed, fixedRoom, roomFor, droppedRoom, boardOf, lateOf, withSync}
 use Rattle.calls.specs.Sync.{Synced, whileLost, inSync, syncedOf}
-use Rattle.calls.specs.Steps.{Step, also, packetEvents, counted, step1, step2, step4, step5}
+use Rattle.calls.specs.Steps.{AfterStep, also, packetEvents, counted, step1, step2, step4, step5}
 use Rattle.calls.specs.Sound.{timeSound, stateSound}
 use Rattle.calls.specs.Calls.{heldOf, packetCall}
 use Rattle.calls.proofs.Accepted.{PacketAccepted, accepted-packet, packet-call-accepted, rooms-at, sound-whole}
 use Rattle.calls.proofs.Moves.{dropped-nowhere}
-use Rattle.checks.specs.Ladders.{Right}
-use Rattle.quiet.specs.Quiet.{rowsQuiet, restQuiet, entriesQuiet, unmarked, syncQuiet, latestQuiet, stateQuiet, headQuiet, idlePacket, byteQuiet, countQuiet, quietCall, quietByte}
+use Rattle.checks.specs.inner.Ladders.{Right}
+use Rattle.quiet.specs.inner.Quiet.{rowsQuiet, restQuiet, entriesQuiet, unmarked, syncQuiet, latestQuiet, stateQuiet, headQuiet, idlePacket, byteQuiet, countQuiet, quietCall, quietByte}
 use Rattle.quiet.proofs.Turns.{passed}
 use Rattle.quiet.proofs.Parts.{rows-timely, rows-both, tables-sound, entries-rows, entries-other, entries-sound}
 
@@ -138,8 +138,8 @@ packet-parts x b e =
     }
 
 -- where sync and lateness leave nothing to say, the call is steps 2 to 5
-module _ (s : State) (m : List ℕ) (t q : ℕ) (h : QuietState s m t q) (x counters : List ℕ) (room : ℕ) (right : rightSync x ≡ true) where
-  abbrev syncedBy : Synced → Step
+module _ (s : State) (m : List ℕ) (t q : ℕ) (h : QuietState s m t q) (x counters : List ℕ) (capacity : ℕ) (right : rightSync x ≡ true) where
+  abbrev syncedBy : Synced → AfterStep
   syncedBy y =
       let g : Held = record { core = y .core; memory = m } in
       also (packetEvents t x (y .faults)) (cond (y .further) (step2 t x counters g) (record { held = g; counters = counters; events = [] }))
@@ -148,16 +148,16 @@ module _ (s : State) (m : List ℕ) (t q : ℕ) (h : QuietState s m t q) (x coun
   unfolding step1
   calm-step = ap syncedBy (quiet-synced s m t q h (rightSync x) right)
 
-  pub calm-call : PacketAccepted s t x counters m room → (after : Step) → step2 t x counters (heldOf s m) ≡ after → after .events ≡ [] → packetCall s t x counters m room
+  pub calm-call : PacketAccepted s t x counters m capacity → (after : AfterStep) → step2 t x counters (heldOf s m) ≡ after → after .events ≡ [] → packetCall s t x counters m capacity
       ≡ record { refusal = 0; state = record { latest = t; core = after .held .core }; counters = after .counters; memory = after .held .memory; events = [] }
   calm-call ok after e none =
-      packet-call-accepted s t x counters m room (accepted-packet s t x counters m room ok) ∙ rw (calm-step, e, none, quiet-timely s m t q h)
+      packet-call-accepted s t x counters m capacity (accepted-packet s t x counters m capacity ok) ∙ rw (calm-step, e, none, quiet-timely s m t q h)
 
 -- the table after it
 abbrev pub countedTable : List ℕ → List ℕ → List ℕ
 countedTable x counters = set counters (pidOf x) (quietByte x (getD counters (pidOf x) 0))
 
-module _ (s : State) (m : List ℕ) (t : ℕ) (x counters : List ℕ) (room : ℕ) (right : Right t x counters room)
+module _ (s : State) (m : List ℕ) (t : ℕ) (x counters : List ℕ) (capacity : ℕ) (right : Right t x counters capacity)
     (e : quietCall s m t x (getD counters (pidOf x) 0) ≡ true) where
   abbrev seen : ℕ
   seen = getD counters (pidOf x) 0
@@ -168,14 +168,14 @@ module _ (s : State) (m : List ℕ) (t : ℕ) (x counters : List ℕ) (room : �
   quietState : QuietState s m t (pidOf x)
   quietState = state-parts s m t (pidOf x) (passed (countQuiet x seen) (stateQuiet s m t (pidOf x)) e .1)
 
-  abbrev quietStep : Step
+  abbrev quietStep : AfterStep
   quietStep = record { held = heldOf s m; counters = countedTable x counters; events = [] }
 
   nowhere : roomFor (s .core) (pidOf x) ≡ noRoom
   nowhere = quiet-room s m t (pidOf x) quietState (quietPacket .low)
 
   -- 5: no sections of the PID are built, and it is no PID whose scrambling is an event
-  abbrev after5 : List ℕ → Step
+  abbrev after5 : List ℕ → AfterStep
   after5 cs = record { held = heldOf s m; counters = cs; events = [] }
 
   quiet-step-5 : (take : Bool) (cs : List ℕ) → length (s .core .half) ≤ roomCount → step5 t x take cs (heldOf s m) ≡ after5 cs
@@ -212,18 +212,18 @@ module _ (s : State) (m : List ℕ) (t : ℕ) (x counters : List ℕ) (room : �
       go false z = quiet-step-4 l (counted x counters) (not-true (counted x counters .event) z)
 
   -- THE CALL
-  quiet-accepted : length (s .core .since) ≤ fixedCount → PacketAccepted s t x counters m room
+  quiet-accepted : length (s .core .since) ≤ fixedCount → PacketAccepted s t x counters m capacity
   quiet-accepted l =
       record {
         packet = right .packet;
         table = right .table;
-        room = right .records;
+        capacity = right .records;
         time = right .time;
         sound = quiet-sound s m t (pidOf x) quietState l;
         byte = quietPacket .byte;
         order = quietState .order;
       }
 
-  pub quiet-call : length (s .core .since) ≤ fixedCount → length (s .core .half) ≤ roomCount → packetCall s t x counters m room
+  pub quiet-call : length (s .core .since) ≤ fixedCount → length (s .core .half) ≤ roomCount → packetCall s t x counters m capacity
       ≡ record { refusal = 0; state = record { latest = t; core = s .core }; counters = countedTable x counters; memory = m; events = [] }
-  quiet-call l g = calm-call s m t (pidOf x) quietState x counters room (quietPacket .sync) (quiet-accepted l) quietStep (quiet-step-2 g) refl
+  quiet-call l g = calm-call s m t (pidOf x) quietState x counters capacity (quietPacket .sync) (quiet-accepted l) quietStep (quiet-step-2 g) refl

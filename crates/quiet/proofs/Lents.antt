@@ -11,17 +11,18 @@ use Rattle.header.specs.Header.{pidOf}
 use Rattle.sections.specs.Rooms.{roomCount}
 use Rattle.calls.specs.Calls.{Result, answerOf, packetCall}
 use Rattle.arrays.specs.declared.Reply.{Reply}
-use Rattle.arrays.specs.Lent.{gapsIn, halvesIn, stateIn, Sized, latestAt, gapsAt, halvesAt, lostAt, runAt, countAt}
+use Rattle.arrays.specs.Lent.{gapsIn, halvesIn, stateIn, latestAt, gapsAt, halvesAt, lostAt, runAt, countAt}
+use Rattle.arrays.specs.inner.Kept.{Sized}
 use Rattle.arrays.specs.Replies.{replyOf, timesAfter, wordsAfter}
 use Rattle.arrays.proofs.Same.{times-same, words-same, lost-same, run-same, count-same}
-use Rattle.checks.specs.Ladders.{Right}
-use Rattle.quiet.specs.Quiet.{stateQuiet, countQuiet, quietCall}
+use Rattle.checks.specs.inner.Ladders.{Right}
+use Rattle.quiet.specs.inner.Quiet.{stateQuiet, countQuiet, quietCall}
 use Rattle.quiet.proofs.Turns.{passed}
 use Rattle.quiet.proofs.Calls.{state-parts, countedTable, quiet-call}
 
-module _ (times words : List ℕ) (sized : Sized times words) (t : ℕ) (x counters m : List ℕ) (room : ℕ) (right : Right t x counters room) where
+module _ (times words : List ℕ) (sized : Sized times words) (t : ℕ) (x counters m : List ℕ) (capacity : ℕ) (right : Right t x counters capacity) where
   abbrev called : Result
-  called = packetCall (stateIn times words) t x counters m room
+  called = packetCall (stateIn times words) t x counters m capacity
 
   abbrev quietReply : Reply
   quietReply = record { refusal = 0; n = 0 }
@@ -37,7 +38,7 @@ module _ (times words : List ℕ) (sized : Sized times words) (t : ℕ) (x count
   quiet-done e =
       let five : length (gapsIn times) ≤ fixedCount = omega (arith, part-length times gapsAt fixedCount (omega (arith, sized .long))) in
       let rooms : length (halvesIn words) ≤ roomCount = omega (arith, part-length words halvesAt roomCount (omega (arith, sized .wide))) in
-      let call = sym (quiet-call (stateIn times words) m t x counters room right e five rooms) in
+      let call = sym (quiet-call (stateIn times words) m t x counters capacity right e five rooms) in
       let state = state-parts (stateIn times words) m t (pidOf x) (passed (countQuiet x (getD counters (pidOf x) 0)) (stateQuiet (stateIn times words) m t (pidOf x)) e .1) in
       let lost = lost-same (getD words lostAt 0) (state .insync) in
       let run = run-same (getD words runAt 0) (omega (arith, state .run)) in

@@ -21,7 +21,7 @@ use Rattle.programmes.specs.Listing.{lowestPid}
 use Rattle.programmes.specs.Places.{placeOf}
 use Rattle.calls.specs.Sound.{greatestPid, timeSound}
 use Rattle.calls.proofs.Accepted.{SoundEntry, SoundList}
-use Rattle.quiet.specs.Quiet.{none, rowQuiet, rowsQuiet, entryQuiet, markOf, entriesQuiet}
+use Rattle.quiet.specs.inner.Quiet.{none, rowQuiet, rowsQuiet, entryQuiet, markOf, entriesQuiet}
 use Rattle.quiet.proofs.Turns.{passed}
 
 -- A QUIET WATCH is sound and gives no event

@@ -11,7 +11,7 @@ use Rattle.watches.specs.Tables.{noEntry}
 use Rattle.arrays.specs.Lent.{tabled}
 use Rattle.arrays.proofs.Tabled.{part-all, part-tabled}
 use Rattle.quiet.specs.declared.Glance.{Glance}
-use Rattle.quiet.specs.Quiet.{entryQuiet, markOf, entriesQuiet, quietByte, glanceOf}
+use Rattle.quiet.specs.inner.Quiet.{entryQuiet, markOf, entriesQuiet, quietByte, glanceOf}
 
 pub cond-same : (b : Bool) → b ≡ cond b true false
 cond-same true = refl

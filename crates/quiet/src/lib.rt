@@ -32,7 +32,7 @@ ghost use Rattle.sections.specs.Rooms.{memorySize, roomCount};
 ghost use Rattle.programmes.specs.Listing.{lowestPid, nullPid, mostListed};
 ghost use Rattle.calls.specs.Sound.{roomsSound};
 ghost use Rattle.arrays.specs.Lent.{entriesIn, stateIn, coreTimeCount, coreWordCount};
-ghost use Rattle.quiet.specs.Quiet.{gapQuiet, rowsQuiet, entryQuiet, entriesQuiet, unmarked, latestQuiet, stateQuiet, countQuiet, quietCall, glanceOf};
+ghost use Rattle.quiet.specs.inner.Quiet.{gapQuiet, rowsQuiet, entryQuiet, entriesQuiet, unmarked, latestQuiet, stateQuiet, countQuiet, quietCall, glanceOf};
 
 // Whether a call is quiet, and then the byte of its PID in the counter table after steps 3 and 4.
 pub struct Glance {

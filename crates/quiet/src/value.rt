@@ -10,8 +10,8 @@ ghost use lib.ListN.{length, take};
 ghost use Rattle.header.specs.Header.{packetSize, headerOf};
 ghost use Rattle.sections.specs.Rooms.{memorySize};
 ghost use Rattle.programmes.specs.Listing.{mostListed};
-ghost use Rattle.arrays.specs.Lent.{Typed};
-ghost use Rattle.quiet.specs.Quiet.{entriesQuiet, unmarked, stateQuiet, quietCall, glanceOf};
+ghost use Rattle.arrays.specs.inner.Kept.{Typed};
+ghost use Rattle.quiet.specs.inner.Quiet.{entriesQuiet, unmarked, stateQuiet, quietCall, glanceOf};
 
 // Whether the listed entries are quiet, with no two numbers of the same remainder.
 fn entries_quiet(entries: [Entry; MOST_LISTED], count: usize, p: u64, t: u64, q: u16) -> bool

@@ -1,5 +1,5 @@
 -- What every step of a packet keeps: a sound core over section memory of bytes, and a counter table of known bytes. Assumes nothing.
-use mathlib.Core.Path.{_≡_, refl, ap, _∙_}
+use mathlib.Core.Path.{_≡_, refl, sym, ap, _∙_}
 use mathlib.Core.Bool.{Bool, true, false, cond}
 use mathlib.Core.List.{List, []}
 use Prim.Native.Nat.{ℕ, _≤_, _<_}
@@ -14,7 +14,7 @@ use Rattle.sections.specs.Rooms.{memorySize, roomCount, patRoom, roomBase, grea
 use Rattle.sections.specs.Section.{stageOf, isMore}
 use Rattle.sections.specs.Building.{Finished, badLength, whole, Job}
 use Rattle.sections.proofs.Stages.{half-short, room-fits}
-use Rattle.sections.proofs.Jobs.{empty-more}
+use Rattle.sections.proofs.Jobs.{empty-more, Within, built-within}
 use Rattle.programmes.specs.Listing.{mostListed}
 use Rattle.programmes.specs.Places.{halfAt}
 use Rattle.programmes.proofs.Moves.{halves-length}
@@ -29,7 +29,7 @@ use Rattle.calls.proofs.Known.{KnownBytes, known-counted}
 use Rattle.calls.specs.Sound.{entriesSound, roomSound}
 use Rattle.reached.specs.Reached.{Bytes}
 use Rattle.reached.proofs.Places.{all-set, all-replicate, all-drop}
-use Rattle.reached.proofs.Built.{AllSections, some, Keeps, built-keeps}
+use Rattle.reached.proofs.Built.{AllSections, some, OfBytes, built-bytes}
 use Rattle.reached.proofs.Listing.{list-sound, front-sound}
 use Rattle.reached.proofs.Moving.{moved-bytes, moved-sound}
 
@@ -102,11 +102,11 @@ module _ (c : Core) (m : List ℕ) (k : Kept (record { core = c; memory = m })) 
       }
 
 -- A ROOM'S LENGTH becomes that of a job there, or 0
-pub built-in-kept : (r : ℕ) (j : Job) (h : Held) → r < roomCount → Kept h → Keeps r (h .memory) j → Kept (builtIn r j h)
-built-in-kept r j h room k b =
+pub built-in-kept : (r : ℕ) (j : Job) (h : Held) → r < roomCount → Kept h → Within r (h .memory) j → OfBytes j → Kept (builtIn r j h)
+built-in-kept r j h room k w b =
     record {
-      size = b .size;
-      bytes = b .bytes;
+      size = w .size;
+      bytes = b .memory;
       halves = length-set (h .core .half) r (j .half) ∙ k .halves;
       since = k .since;
       count = k .count;
@@ -116,11 +116,11 @@ built-in-kept r j h room k b =
     }
   where
     go : (q : ℕ) → q < roomCount → (t : Bool) → eqb q r ≡ t → roomSound (set (h .core .half) r (j .half)) (j .memory) q ≡ true
-    go q g true e = room-here (h .core .half) (j .memory) r q (j .half) (eqb-true q r e) (omega (arith, k .halves)) (b .more)
+    go q g true e = room-here (h .core .half) (j .memory) r q (j .half) (eqb-true q r e) (omega (arith, k .halves)) (w .more)
     go q g false e =
         let short = half-short (h .memory) (roomBase q) (greatestLength q) (halfAt (h .core .half) q) (omega (arith, room-fits q g, k .size)) (k .rooms q g) in
         room-other (h .core .half) (j .memory) (h .memory) r q (j .half) (eqb-false q r e)
-        (b .others q (halfAt (h .core .half) q) g (eqb-false q r e) (omega arith)) (k .rooms q g)
+        (w .others q (halfAt (h .core .half) q) g (λ z. eqb-false q r e (sym z)) (omega arith)) (k .rooms q g)
 
 pub dropped-kept : (r : ℕ) (h : Held) → Kept h → Kept (droppedRoom r h)
 dropped-kept r h k =
@@ -195,9 +195,11 @@ module _ (t : ℕ) (time : t ≤ latestTime) where
   BothKept h cs = Kept h × Known cs
 
   module _ (p : List ℕ) (b : Bytes p) where
-    keeps : (g : Held) (r : ℕ) → r < roomCount → Kept g → Keeps r (g .memory) (jobOf r (unitStart p) (payloadOf p) g)
-    keeps g r inside k =
-        built-keeps r (g .memory) inside (halfAt (g .core .half) r) (unitStart p) (payloadOf p) (k .size) (k .bytes) (k .rooms r inside) (all-drop (λ x. x < 256) (payloadAt p) p b)
+    within : (g : Held) (r : ℕ) → r < roomCount → Kept g → Within r (g .memory) (jobOf r (unitStart p) (payloadOf p) g)
+    within g r inside k = built-within r (g .memory) inside (halfAt (g .core .half) r) (unitStart p) (payloadOf p) (k .rooms r inside) (k .size)
+
+    of-bytes : (g : Held) (r : ℕ) → Kept g → OfBytes (jobOf r (unitStart p) (payloadOf p) g)
+    of-bytes g r k = built-bytes r (g .memory) (halfAt (g .core .half) r) (unitStart p) (payloadOf p) (k .bytes) (all-drop (λ x. x < 256) (payloadAt p) p b)
 
     moves : Moves t p BothKept
     moves =
@@ -209,10 +211,10 @@ module _ (t : ℕ) (time : t ≤ latestTime) where
           );
           byte = λ h cs k. (k .0, known-kept p cs (k .1));
           dropped = λ h cs k. (dropped-kept (roomFor (h .core) (pidOf p)) h (k .0), k .1);
-          built = λ h cs inside k. (built-in-kept (roomFor (h .core) (pidOf p)) _ h inside (k .0) (keeps h (roomFor (h .core) (pidOf p)) inside (k .0)), k .1);
+          built = λ h cs inside k. (built-in-kept (roomFor (h .core) (pidOf p)) _ h inside (k .0) (within h (roomFor (h .core) (pidOf p)) inside (k .0)) (of-bytes h (roomFor (h .core) (pidOf p)) (k .0)), k .1);
           table = λ g h cs r f from before k. (table-kept r h (k .0), k .1);
           page = λ g h cs r f from before k n. (programme-kept n (pidOf p) h (k .0), k .1);
-          list = λ g h cs f from k l. (relisted-kept (bytesOf f) h (section-bytes f _ (from .among) (keeps g patRoom (from .inside) (k .0) .finished)) (l .0), l .1);
+          list = λ g h cs f from k l. (relisted-kept (bytesOf f) h (section-bytes f _ (from .among) (of-bytes g patRoom (k .0) .finished)) (l .0), l .1);
         }
 
     pub packet-kept : (counters : List ℕ) (h : Held) → Kept h → Known counters → Kept (step1 t p counters h .held) × Known (step1 t p counters h .counters)

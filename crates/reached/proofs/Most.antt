@@ -7,7 +7,7 @@ use native.Mathlib.Omega.{arith}
 use lib.Dec.{eqb}
 use lib.ListN.{length, length-append, length-take}
 use borrow.Author.Tests.{eqb-true, eqb-false}
-use Rattle.events.specs.Room.{mostEvents}
+use Rattle.events.specs.Capacity.{mostEvents}
 use Rattle.watches.specs.Tables.{fixedTables, fixedCount}
 use Rattle.watches.specs.Late.{tableRows, entryRows}
 use Rattle.watches.proofs.Late.{few-both, rows-most, fixed-rows-few, tables-within, entries-few, entries-length}
@@ -34,14 +34,14 @@ late-of-most p t c =
     )
 
 -- THE PAPER'S SENTENCE ("n is never above 87"): 5 + 16 late, one of continuity and 61 of sections are 83
-pub most-events : (s : State) (t : ℕ) (p counters m : List ℕ) (room : ℕ) → length (packetCall s t p counters m room .events) ≤ 83
-most-events s t p counters m room = go (eqb (packetRefusal s t p counters m room) 0) refl
+pub most-events : (s : State) (t : ℕ) (p counters m : List ℕ) (capacity : ℕ) → length (packetCall s t p counters m capacity .events) ≤ 83
+most-events s t p counters m capacity = go (eqb (packetRefusal s t p counters m capacity) 0) refl
   where
-    go : (accepted : Bool) → eqb (packetRefusal s t p counters m room) 0 ≡ accepted → length (packetCall s t p counters m room .events) ≤ 83
+    go : (accepted : Bool) → eqb (packetRefusal s t p counters m capacity) 0 ≡ accepted → length (packetCall s t p counters m capacity .events) ≤ 83
     go true e =
-        let zero = eqb-true (packetRefusal s t p counters m room) 0 e in
-        let given = packet-accepted s t p counters m room zero in
-        rw (packet-call-accepted s t p counters m room zero)
+        let zero = eqb-true (packetRefusal s t p counters m capacity) 0 e in
+        let given = packet-accepted s t p counters m capacity zero in
+        rw (packet-call-accepted s t p counters m capacity zero)
         (omega (
           arith,
           length-append (lateOf (s .latest) t (s .core)) (stepped s t p counters m .events),
@@ -49,17 +49,17 @@ most-events s t p counters m room = go (eqb (packetRefusal s t p counters m room
           sound-parts s m (given .sound) .count,
           packet-own t p counters (heldOf s m) .few (given .packet),
         ))
-    go false e = rw (packet-call-refused s t p counters m room (eqb-false (packetRefusal s t p counters m room) 0 e)) (omega arith)
+    go false e = rw (packet-call-refused s t p counters m capacity (eqb-false (packetRefusal s t p counters m capacity) 0 e)) (omega arith)
 
-pub most-events-paper : (s : State) (t : ℕ) (p counters m : List ℕ) (room : ℕ) → answerOf (packetCall s t p counters m room) .n ≤ mostEvents
-most-events-paper s t p counters m room = omega (arith, most-events s t p counters m room)
+pub most-events-paper : (s : State) (t : ℕ) (p counters m : List ℕ) (capacity : ℕ) → answerOf (packetCall s t p counters m capacity) .n ≤ mostEvents
+most-events-paper s t p counters m capacity = omega (arith, most-events s t p counters m capacity)
 
-pub most-events-clock : (s : State) (t : ℕ) (m : List ℕ) (room : ℕ) → length (clockCall s t m room .events) ≤ 21
-most-events-clock s t m room = go (eqb (clockRefusal s t m room) 0) refl
+pub most-events-clock : (s : State) (t : ℕ) (m : List ℕ) (capacity : ℕ) → length (clockCall s t m capacity .events) ≤ 21
+most-events-clock s t m capacity = go (eqb (clockRefusal s t m capacity) 0) refl
   where
-    go : (accepted : Bool) → eqb (clockRefusal s t m room) 0 ≡ accepted → length (clockCall s t m room .events) ≤ 21
+    go : (accepted : Bool) → eqb (clockRefusal s t m capacity) 0 ≡ accepted → length (clockCall s t m capacity .events) ≤ 21
     go true e =
-        let zero = eqb-true (clockRefusal s t m room) 0 e in
-        rw (clock-call-accepted s t m room zero)
-        (omega (arith, late-of-most (s .latest) t (s .core), sound-parts s m (clock-accepted s t m room zero .sound) .count))
-    go false e = rw (clock-call-refused s t m room (eqb-false (clockRefusal s t m room) 0 e)) (omega arith)
+        let zero = eqb-true (clockRefusal s t m capacity) 0 e in
+        rw (clock-call-accepted s t m capacity zero)
+        (omega (arith, late-of-most (s .latest) t (s .core), sound-parts s m (clock-accepted s t m capacity zero .sound) .count))
+    go false e = rw (clock-call-refused s t m capacity (eqb-false (clockRefusal s t m capacity) 0 e)) (omega arith)

@@ -18,7 +18,7 @@ Bytes l = (k : ℕ) → getD l k 0 < 256
 pub data Reached : State → List ℕ → List ℕ → Type 0 where
   opening : (t : ℕ) (counters m : List ℕ) → openRefusal t counters ≡ 0 → length m ≡ memorySize → Bytes m
       → Reached (openState t counters) m (openTable t counters)
-  packet : (s : State) (m counters : List ℕ) (t : ℕ) (p : List ℕ) (room : ℕ) → Reached s m counters → Bytes p
-      → Reached (packetCall s t p counters m room .state) (packetCall s t p counters m room .memory) (packetCall s t p counters m room .counters)
-  clock : (s : State) (m counters : List ℕ) (t room : ℕ) → Reached s m counters
-      → Reached (clockCall s t m room .state) (clockCall s t m room .memory) counters
+  packet : (s : State) (m counters : List ℕ) (t : ℕ) (p : List ℕ) (capacity : ℕ) → Reached s m counters → Bytes p
+      → Reached (packetCall s t p counters m capacity .state) (packetCall s t p counters m capacity .memory) (packetCall s t p counters m capacity .counters)
+  clock : (s : State) (m counters : List ℕ) (t capacity : ℕ) → Reached s m counters
+      → Reached (clockCall s t m capacity .state) (clockCall s t m capacity .memory) counters

@@ -1,11 +1,10 @@
--- The machine that is fed bytes goes by whole sections: a section step takes it to the end of the section at hand. Assumes nothing.
+-- A payload that is fed byte by byte goes by whole sections: a section step comes to the end of the section at hand. Assumes nothing.
 use mathlib.Core.Path.{_≡_, refl, sym, ap, ap₂, _∙_}
-use mathlib.Core.Bool.{true, false, cond, _&&_, true≢false}
+use mathlib.Core.Bool.{true, false, cond, true≢false}
 use mathlib.Core.List.{List, [], _∷_, _++_, append-nil, append-assoc}
 use Prim.Native.Nat.{ℕ, suc, _+_, _≤_, _<_}
 use native.Mathlib.Nat.{add-zero}
 use native.Mathlib.Omega.{arith}
-use lib.Dec.{eqb}
 use lib.ListN.{length, take, drop, length-set}
 use borrow.Author.Tests.{ne-eqb}
 use Rattle.lists.proofs.Places.{part-set}
@@ -13,32 +12,24 @@ use Rattle.sections.specs.declared.Stage.{Stage}
 use Rattle.sections.specs.declared.Stage.the-variants.{More, Bad, Whole}
 use Rattle.sections.specs.Rooms.{roomBase, greatestLength, halfBuilt}
 use Rattle.sections.specs.Section.{stageOf, isMore}
-use Rattle.sections.specs.Building.{Mode, going, fresh, Job, laidByte, ended, settled, fedBy, fed}
-use Rattle.sections.specs.Steps.{takenBy, laidIn}
+use Rattle.sections.specs.Building.{Stretch, goingOn, following, Job, laidByte, ended, settled, fedBy, fed}
+use Rattle.sections.specs.inner.Steps.{takenBy, laidIn}
 use Rattle.sections.proofs.Stages.{half-short}
 
--- modes in which bytes go to a section
-pub data Active : Mode → Type 0 where
-  goes : Active going
-  news : Active fresh
+-- the first byte of s goes to the section at hand
+abbrev pub Begins : Stretch → ℕ → Job → List ℕ → Type 0
+Begins w r j [] = Unit {0}
+Begins w r j (b ∷ s) = fedBy w r b j ≡ settled r (laidByte r b j)
 
--- the first byte is no stuffing
-abbrev pub Starts : ℕ → List ℕ → Type 0
-Starts n [] = Unit {0}
-Starts n (b ∷ s) = (eqb n 0 && eqb b 0xFF) ≡ false
+-- as it does where the section has bytes
+pub begins-within : (w : Stretch) (r : ℕ) (j : Job) (s : List ℕ) → j .ignored ≡ false → (j .half ≡ 0 → ⊥) → Begins w r j s
+begins-within w r j [] e h = tt
+begins-within goingOn r j (b ∷ s) e h = rw (ne-eqb (j .half) 0 h)
+begins-within following r j (b ∷ s) e h = rw (e, ne-eqb (j .half) 0 h)
 
--- a byte goes to the section at hand
-takes : {m : Mode} → Active m → (r b : ℕ) (j : Job) → (eqb (j .half) 0 && eqb b 0xFF) ≡ false → fedBy m r b j ≡ settled r (laidByte r b j)
-takes goes r b j e = refl
-takes news r b j e = rw e
-
-within : (n : ℕ) (s : List ℕ) → Starts (n + 1) s
-within n [] = tt
-within n (b ∷ s) = rw (ne-eqb (n + 1) 0 (λ z. omega arith))
-
--- the bytes s laid behind those of the section at hand, whose bytes are then h
+-- the first k bytes of s laid behind those of the section at hand, and the bytes of the section then
 abbrev pub carried : ℕ → Job → List ℕ → ℕ → Job
-carried r j s k = record { mode = j .mode; memory = laidIn r (j .memory) (j .half) (take k s); half = j .half + k; finished = j .finished }
+carried r j s k = record { memory = laidIn r (j .memory) (j .half) (take k s); half = j .half + k; finished = j .finished; ignored = j .ignored }
 
 abbrev pub sectionOf : ℕ → Job → List ℕ → ℕ → List ℕ
 sectionOf r j s k = halfBuilt (j .memory) r (j .half) ++ take k s
@@ -51,7 +42,7 @@ abbrev pub stepped : ℕ → Job → List ℕ → ℕ → Job
 stepped r j s k = ended (stageOf (greatestLength r) (sectionOf r j s k)) (sectionOf r j s k) (carried r j s k)
 
 pub record Ready (r : ℕ) (j : Job) : Type 0 where
-  pub active : Active (j .mode)
+  pub going : j .ignored ≡ false
   pub room : roomBase r + greatestLength r + 3 ≤ length (j .memory)
   pub more : isMore (stageOf (greatestLength r) (halfBuilt (j .memory) r (j .half))) ≡ true
 
@@ -71,7 +62,7 @@ module _ (r : ℕ) (j : Job) (b : ℕ) (q : Ready r j) where
   ready-next : stageOf (greatestLength r) (halfBuilt (j .memory) r (j .half) ++ (b ∷ [])) ≡ More → Ready r (laidByte r b j)
   ready-next e =
       record {
-        active = q .active;
+        going = q .going;
         room = rw (length-set (j .memory) (roomBase r + j .half) b) (q .room);
         more = ap (λ h. isMore (stageOf (greatestLength r) h)) grown ∙ ap isMore e;
       }
@@ -89,14 +80,14 @@ module _ (r : ℕ) (j : Job) (b : ℕ) (q : Ready r j) where
   stepped-on : (s : List ℕ) (k : ℕ) → stepped r (laidByte r b j) s k ≡ stepped r j (b ∷ s) (suc k)
   stepped-on s k = ap₂ (λ h c. ended (stageOf (greatestLength r) h) h c) (section-on s k) (carried-on s k)
 
-pub chunk : (r : ℕ) (j : Job) (s : List ℕ) → Ready r j → Starts (j .half) s → fed r j s ≡ fed r (stepped r j s (takenOf r j s)) (drop (takenOf r j s) s)
+pub chunk : (w : Stretch) (r : ℕ) (j : Job) (s : List ℕ) → Ready r j → Begins w r j s → fed w r j s ≡ fed w r (stepped r j s (takenOf r j s)) (drop (takenOf r j s) s)
 unfolding fed takenBy
-chunk r j [] q z =
+chunk w r j [] q z =
     let e : halfBuilt (j .memory) r (j .half) ++ [] ≡ halfBuilt (j .memory) r (j .half) = append-nil (halfBuilt (j .memory) r (j .half)) in
     rw (e, more-is (stageOf (greatestLength r) (halfBuilt (j .memory) r (j .half))) (q .more), add-zero (j .half))
-chunk r j (b ∷ s) q z =
-    ap (λ k. fed r k s) (takes (q .active) r b j z ∙ ap (λ h. ended (stageOf top h) h next) (grown r j b q))
-    ∙ go (stageOf top (so ++ (b ∷ []))) refl (λ e. chunk r next s (ready-next r j b q e) (within (j .half) s))
+chunk w r j (b ∷ s) q z =
+    ap (λ k. fed w r k s) (z ∙ ap (λ h. ended (stageOf top h) h next) (grown r j b q))
+    ∙ go (stageOf top (so ++ (b ∷ []))) refl (λ e. chunk w r next s (ready-next r j b q e) (begins-within w r next s (q .going) (λ n. omega arith)))
   where
     top : ℕ
     top = greatestLength r
@@ -111,11 +102,11 @@ chunk r j (b ∷ s) q z =
     rest = takenBy top (so ++ (b ∷ [])) s
 
     go : (g : Stage) → stageOf top (so ++ (b ∷ [])) ≡ g
-        → (stageOf top (so ++ (b ∷ [])) ≡ More → fed r next s ≡ fed r (stepped r next s (takenOf r next s)) (drop (takenOf r next s) s))
-        → fed r (ended g (so ++ (b ∷ [])) next) s ≡ fed r (stepped r j (b ∷ s) (cond (isMore g) (suc rest) 1)) (drop (cond (isMore g) (suc rest) 1) (b ∷ s))
+        → (stageOf top (so ++ (b ∷ [])) ≡ More → fed w r next s ≡ fed w r (stepped r next s (takenOf r next s)) (drop (takenOf r next s) s))
+        → fed w r (ended g (so ++ (b ∷ [])) next) s ≡ fed w r (stepped r j (b ∷ s) (cond (isMore g) (suc rest) 1)) (drop (cond (isMore g) (suc rest) 1) (b ∷ s))
     go More e ih =
         ih e
-        ∙ ap (λ h. fed r (stepped r next s (takenBy top h s)) (drop (takenBy top h s) s)) (grown r j b q)
-        ∙ ap (λ c. fed r c (drop rest s)) (stepped-on r j b q s rest)
-    go Bad e ih = ap (λ g. fed r (ended g (so ++ (b ∷ [])) next) s) (sym e)
-    go Whole e ih = ap (λ g. fed r (ended g (so ++ (b ∷ [])) next) s) (sym e)
+        ∙ ap (λ h. fed w r (stepped r next s (takenBy top h s)) (drop (takenBy top h s) s)) (grown r j b q)
+        ∙ ap (λ c. fed w r c (drop rest s)) (stepped-on r j b q s rest)
+    go Bad e ih = ap (λ g. fed w r (ended g (so ++ (b ∷ [])) next) s) (sym e)
+    go Whole e ih = ap (λ g. fed w r (ended g (so ++ (b ∷ [])) next) s) (sym e)

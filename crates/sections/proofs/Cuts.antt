@@ -14,7 +14,7 @@ use Rattle.sections.specs.declared.Stage.{Stage}
 use Rattle.sections.specs.declared.Stage.the-variants.{More, Whole}
 use Rattle.sections.specs.declared.Laid.{Laid}
 use Rattle.sections.specs.Section.{sectionLength, stageOf, isMore}
-use Rattle.sections.specs.Steps.{takenBy, laidOf}
+use Rattle.sections.specs.inner.Steps.{takenBy, laidOf}
 use Rattle.sections.proofs.Stages.{more-known, stage-few, stage-grown}
 
 module _ (top : ℕ) where

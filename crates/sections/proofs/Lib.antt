@@ -5,3 +5,4 @@ pub mod Chunks
 pub mod Counts
 pub mod Jobs
 pub mod Takes
+pub mod Examples

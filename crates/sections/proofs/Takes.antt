@@ -1,4 +1,4 @@
--- A section step as `lay` makes it: where it leaves the section at hand, and the machine that is fed bytes. Assumes nothing.
+-- A section step as `lay` makes it: where it leaves the section at hand, and the payload that is fed byte by byte. Assumes nothing.
 use mathlib.Core.Path.{_≡_, refl, sym, ap, ap₂, _∙_}
 use mathlib.Core.Bool.{Bool, true, false, cond, true≢false}
 use mathlib.Core.List.{List, [], _∷_, _++_, append-assoc}
@@ -10,11 +10,11 @@ use Rattle.lists.proofs.Places.{part-length, part-sets}
 use Rattle.sections.specs.declared.Laid.{Laid}
 use Rattle.sections.specs.Rooms.{memorySize, roomCount, roomBase, greatestLength, halfBuilt}
 use Rattle.sections.specs.Section.{stageOf, isMore}
-use Rattle.sections.specs.Building.{Mode, Finished, Job, ended, fed}
-use Rattle.sections.specs.Steps.{takenBy, laidOf, laidIn}
+use Rattle.sections.specs.Building.{Stretch, ended, fed, begunJob}
+use Rattle.sections.specs.inner.Steps.{takenBy, laidOf, laidIn}
 use Rattle.sections.proofs.Stages.{more-short, half-short, room-fits}
 use Rattle.sections.proofs.Cuts.{taken-most}
-use Rattle.sections.proofs.Chunks.{Active, Starts, stepped, chunk}
+use Rattle.sections.proofs.Chunks.{Begins, stepped, chunk}
 use Rattle.sections.proofs.Counts.{half-three}
 
 -- a section does not outgrow its room
@@ -82,18 +82,16 @@ module _ (r : ℕ) (m : List ℕ) (n : ℕ) (s : List ℕ) (l : Laid) (m′ : Li
       ∙ ap (λ k. stageOf (greatestLength r) (halfBuilt m r n ++ take k s)) (sym taken-is)
       ∙ ap (stageOf (greatestLength r)) (sym section-laid)
 
-  -- it takes the machine to the end of the section at hand
-  pub section-step : (md : Mode) (fs : List Finished) → Active md → Starts n s
-      → fed r (record { mode = md; memory = m; half = n; finished = fs }) s
-      ≡ fed r (ended (l .stage) (halfBuilt m′ r (l .length)) (record { mode = md; memory = m′; half = l .length; finished = fs })) (drop (l .taken) s)
-  section-step md fs act starts =
-      let j : Job = record { mode = md; memory = m; half = n; finished = fs } in
+  -- it comes to the end of the section at hand
+  pub section-step : (w : Stretch) → Begins w r (begunJob m n) s
+      → fed w r (begunJob m n) s ≡ fed w r (ended (l .stage) (halfBuilt m′ r (l .length)) (begunJob m′ (l .length))) (drop (l .taken) s)
+  section-step w begins =
       let top = greatestLength r in
-      chunk r j s (record { active = act; room = omega (arith, room-fits r below, size); more = more }) starts
-      ∙ ap (λ k. fed r (stepped r j s k) (drop k s)) (sym taken-is)
-      ∙ ap (λ x. fed r (ended (stageOf top x) x (record { mode = md; memory = laidIn r m n (take (l .taken) s); half = n + l .taken; finished = fs })) (drop (l .taken) s)) (sym section-laid)
-      ∙ ap₂ (λ (z : List ℕ) (k : ℕ). fed r (ended (stageOf top (halfBuilt m′ r (l .length))) (halfBuilt m′ r (l .length)) (record { mode = md; memory = z; half = k; finished = fs })) (drop (l .taken) s)) (sym em) (sym length-is)
-      ∙ ap (λ g. fed r (ended g (halfBuilt m′ r (l .length)) (record { mode = md; memory = m′; half = l .length; finished = fs })) (drop (l .taken) s)) (sym laid-stage)
+      chunk w r (begunJob m n) s (record { going = refl; room = omega (arith, room-fits r below, size); more = more }) begins
+      ∙ ap (λ k. fed w r (stepped r (begunJob m n) s k) (drop k s)) (sym taken-is)
+      ∙ ap (λ x. fed w r (ended (stageOf top x) x (begunJob (laidIn r m n (take (l .taken) s)) (n + l .taken))) (drop (l .taken) s)) (sym section-laid)
+      ∙ ap₂ (λ (z : List ℕ) (k : ℕ). fed w r (ended (stageOf top (halfBuilt m′ r (l .length))) (halfBuilt m′ r (l .length)) (begunJob z k)) (drop (l .taken) s)) (sym em) (sym length-is)
+      ∙ ap (λ g. fed w r (ended g (halfBuilt m′ r (l .length)) (begunJob m′ (l .length))) (drop (l .taken) s)) (sym laid-stage)
 
   -- nothing is left behind an unfinished section, and a finished one that is new has three bytes or more
   pub laid-out : isMore (l .stage) ≡ true → drop (l .taken) s ≡ []

@@ -1,18 +1,24 @@
--- Building sections from one payload: document 01, "Building sections", as a machine that is fed one byte of the payload at a time and lays
--- it into section memory.
+-- Building sections from one payload: document 01, "Building sections". The payload is taken byte by byte, and what goes to a section is laid
+-- into section memory.
 --
---   Mode       == going: the half-built section goes on; done: it has ended, bytes are ignored up to the pointer's end; fresh: new sections
---                 follow back to back; stopped: the rest of the payload is ignored
---   Finished   == a section that came to its end: its length was bad, or it is whole with these bytes
---   Job        == the mode, section memory, the bytes in the room, and the sections finished so far
---   laidByte r b j == a byte goes to the section in the room r
---   ended g s j    == after a bad length the rest of the payload is ignored; after a whole section what follows is; the room is empty
---   settled r j    == what the bytes in the room have come to
---   fedBy r b j    == one byte of the payload: a section does not begin with table_id 0xFF
---   fed r j s      == some bytes of it
---   pointerOf s    == with unit start set, the first payload byte is a pointer
---   pointed r j s  == its bytes go to the half-built section, which is dropped if still unfinished, and new sections follow
---   built r m n start s == the whole payload s, on a half-built section of n bytes in the room r
+--   Stretch        == the bytes of a payload that are taken alike. goingOn: only a half-built section goes on, bytes after its end are ignored;
+--                     following: new sections follow back to back until table_id 0xFF
+--   Finished       == a section that came to its end: badLength, its section_length breaks the rule; or whole, with these bytes
+--   Job            == section memory, how many half-built bytes the room has, the sections finished so far, and whether the rest of the payload
+--                     is ignored
+--   laidByte r b j == a byte goes to the half-built section in the room r
+--   dropped j      == the half-built section is dropped
+--   ignoring j     == the rest of the payload is ignored
+--   closed f j     == the half-built section has come to its end, and the room is empty
+--   ended g s j    == a section of the bytes s goes on, breaks the section_length rule (then the rest of the payload is ignored), or is whole
+--   settled r j    == which of the three the half-built section in the room r has come to
+--   fedBy w r b j  == one byte of a stretch
+--   fed w r j s    == some bytes of it
+--   pointerOf s    == with unit start set, the first payload byte is a pointer p
+--   pointed r j s  == if 1+p is not below the payload length, the half-built section is dropped and the payload ignored; else p bytes go to the
+--                     half-built section, which is dropped if still unfinished, and new sections follow
+--   begunJob m n   == a half-built section of n bytes, before the payload
+--   built r m n start s == the payload s taken, on a half-built section of n bytes in the room r
 use Prim.Native.Nat.{ℕ, _+_}
 use mathlib.Core.Bool.{Bool, true, false, cond, _&&_}
 use mathlib.Core.List.{List, [], _∷_, _++_}
@@ -23,68 +29,51 @@ use Rattle.sections.specs.declared.Stage.the-variants.{More, Bad, Whole}
 use Rattle.sections.specs.Rooms.{roomBase, greatestLength, halfBuilt}
 use Rattle.sections.specs.Section.{stageOf}
 
-pub data Mode : Type 0 where
-  going : Mode
-  done : Mode
-  fresh : Mode
-  stopped : Mode
+pub data Stretch : Type 0 where
+  goingOn : Stretch
+  following : Stretch
 
 pub data Finished : Type 0 where
   badLength : Finished
   whole : List ℕ → Finished
 
 pub record Job : Type 0 where
-  pub mode : Mode
   pub memory : List ℕ
   pub half : ℕ
   pub finished : List Finished
+  pub ignored : Bool
 
 abbrev pub laidByte : ℕ → ℕ → Job → Job
-laidByte r b j = record { mode = j .mode; memory = set (j .memory) (roomBase r + j .half) b; half = j .half + 1; finished = j .finished }
+laidByte r b j =
+    record { memory = set (j .memory) (roomBase r + j .half) b; half = j .half + 1; finished = j .finished; ignored = j .ignored }
 
-abbrev pub afterWhole : Mode → Mode
-afterWhole going = done
-afterWhole done = done
-afterWhole fresh = fresh
-afterWhole stopped = stopped
+abbrev pub dropped : Job → Job
+dropped j = record { memory = j .memory; half = 0; finished = j .finished; ignored = j .ignored }
+
+abbrev pub ignoring : Job → Job
+ignoring j = record { memory = j .memory; half = j .half; finished = j .finished; ignored = true }
+
+abbrev pub closed : Finished → Job → Job
+closed f j = record { memory = j .memory; half = 0; finished = j .finished ++ (f ∷ []); ignored = j .ignored }
 
 abbrev pub ended : Stage → List ℕ → Job → Job
 ended More s j = j
-ended Bad s j = record { mode = stopped; memory = j .memory; half = 0; finished = j .finished ++ (badLength ∷ []) }
-ended Whole s j = record { mode = afterWhole (j .mode); memory = j .memory; half = 0; finished = j .finished ++ (whole s ∷ []) }
+ended Bad s j = ignoring (closed badLength j)
+ended Whole s j = closed (whole s) j
 
 abbrev pub settled : ℕ → Job → Job
 settled r j = ended (stageOf (greatestLength r) (halfBuilt (j .memory) r (j .half))) (halfBuilt (j .memory) r (j .half)) j
 
-abbrev pub inMode : Mode → Job → Job
-inMode m j = record { mode = m; memory = j .memory; half = j .half; finished = j .finished }
+abbrev pub fedBy : Stretch → ℕ → ℕ → Job → Job
+fedBy goingOn r b j = cond (eqb (j .half) 0) j (settled r (laidByte r b j))
+fedBy following r b j =
+    cond (j .ignored) j
+    (cond (eqb (j .half) 0 && eqb b 0xFF) (ignoring j)
+    (settled r (laidByte r b j)))
 
-abbrev pub emptied : Mode → Job → Job
-emptied m j = record { mode = m; memory = j .memory; half = 0; finished = j .finished }
-
-abbrev pub fedBy : Mode → ℕ → ℕ → Job → Job
-fedBy going r b j = settled r (laidByte r b j)
-fedBy done r b j = j
-fedBy fresh r b j = cond (eqb (j .half) 0 && eqb b 0xFF) (inMode stopped j) (settled r (laidByte r b j))
-fedBy stopped r b j = j
-
-unfoldable pub fed : ℕ → Job → List ℕ → Job
-fed r j [] = j
-fed r j (b ∷ s) = fed r (fedBy (j .mode) r b j) s
-
--- only a half-built section goes on
-abbrev pub resumed : Job → Job
-resumed j = inMode (cond (eqb (j .half) 0) done going) j
-
--- what is unfinished at the pointer's end is dropped; the payload may have been given up before
-abbrev pub anew : Mode → Mode
-anew going = fresh
-anew done = fresh
-anew fresh = fresh
-anew stopped = stopped
-
-abbrev pub restarted : Job → Job
-restarted j = emptied (anew (j .mode)) j
+unfoldable pub fed : Stretch → ℕ → Job → List ℕ → Job
+fed w r j [] = j
+fed w r j (b ∷ s) = fed w r (fedBy w r b j) s
 
 abbrev pub pointerOf : List ℕ → ℕ
 pointerOf s = getD s 0 0
@@ -92,12 +81,12 @@ pointerOf s = getD s 0 0
 abbrev pub pointed : ℕ → Job → List ℕ → Job
 pointed r j s =
     cond (ltb (1 + pointerOf s) (length s))
-    (fed r (restarted (fed r (resumed j) (take (pointerOf s) (drop 1 s)))) (drop (1 + pointerOf s) s))
-    (emptied stopped j)
+    (fed following r (dropped (fed goingOn r j (take (pointerOf s) (drop 1 s)))) (drop (1 + pointerOf s) s))
+    (dropped j)
 
 abbrev pub begunJob : List ℕ → ℕ → Job
-begunJob m n = record { mode = done; memory = m; half = n; finished = [] }
+begunJob m n = record { memory = m; half = n; finished = []; ignored = false }
 
 unfoldable pub built : ℕ → List ℕ → ℕ → Bool → List ℕ → Job
-built r m n false s = fed r (resumed (begunJob m n)) s
+built r m n false s = fed goingOn r (begunJob m n) s
 built r m n true s = pointed r (begunJob m n) s

@@ -2,4 +2,4 @@ pub mod Rooms
 pub mod Section
 pub mod Building
 pub mod Outcomes
-pub mod Steps
+pub mod inner

@@ -4,8 +4,10 @@
 --   crcJudged s        == CRC_32 is judged where the indicator is 1, or table_id is 0x73
 --   crcWrong s         == and it is wrong
 --   rightId r          == the table_id of the room r: that of its fixed table, or 0x02
+--   isPmtRoom r        == the room r is one of a listed PMT PID
 --   goodNumbers r id second n sixth == right table_id, indicator 1, current_next_indicator 1; for the TDT, indicator 0 and section_length 5
 --   isGood r s         == so the section s
+--   wholeOutcome r pid s == the outcome of a whole section
 --   outcomeOf r pid f  == the outcome of a finished section of the room r on a PID
 --   eventsOf t o       == the event of an outcome at the time t, if it has one
 use Prim.Native.Nat.{ℕ}

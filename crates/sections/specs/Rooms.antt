@@ -1,8 +1,10 @@
 -- Rooms of section memory: document 01, "Building sections" ("Sections are built on the five fixed PIDs and the listed PMT PIDs"), and
 -- docs/DECISIONS.md, F1 and F4. Section memory is 24,576 bytes; a half-built section is the first bytes of its room.
 --
+--   memorySize      == the bytes of section memory
 --   roomCount       == 21 rooms: PAT, NIT, SDT, EIT and TDT, in the table's order, then one for each place of the list
 --   noRoom          == no section is built
+--   patRoom, eitRoom, tdtRoom == the rooms of these tables
 --   roomOfPlace k   == the room of the place k of the list
 --   roomBase r      == where it begins: 1,024 bytes each, 4,096 for the EIT
 --   greatestLength r == section_length may be up to 1,021; 4,093 on PID 0x0012

@@ -11,6 +11,7 @@
 --                         below 4 for table_id 0x73
 --   lengthBad top s    == the section's is
 --   stageOf top s      == more bytes are to come; section_length breaks the rule, which is judged with the third byte; or whole
+--   isMore g           == more bytes are to come
 use Prim.Native.Nat.{ℕ, _+_, _*_, _%_}
 use mathlib.Core.Bool.{Bool, true, false, cond, _&&_, _||_}
 use mathlib.Core.List.{List}

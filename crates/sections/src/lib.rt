@@ -18,7 +18,7 @@ ghost use Rattle.sections.specs.declared.Stage.the-variants.{More, Whole
 ghost use Rattle.sections.specs.Rooms.{memorySize, roomCount, roomBase, greatestLength, halfBuilt};
 ghost use Rattle.sections.specs.Section.{badNumbers, sectionLength, extensionOf, stageOf, isMore};
 ghost use Rattle.sections.specs.Outcomes.{rightId, crcWrong, goodNumbers, wholeOutcome};
-ghost use Rattle.sections.specs.Steps.{laidOf, laidIn, stepOutcome};
+ghost use Rattle.sections.specs.inner.Steps.{laidOf, laidIn, stepOutcome};
 
 // How far the bytes of a section are: more are to come, section_length is out of bounds, or it is whole.
 pub enum Stage {

@@ -13,7 +13,7 @@ use Rattle.lists.proofs.Laying.{laid-turn}
 use Rattle.events.specs.declared.Event.{Event}
 use Rattle.events.specs.Events.{numbersOf, eventsLaid}
 use Rattle.events.specs.Faults.{transportError, continuityError}
-use Rattle.events.specs.Room.{recordWidth}
+use Rattle.events.specs.Capacity.{recordWidth}
 use Rattle.header.specs.declared.Header.{Header}
 use Rattle.header.specs.Header.{rightSync, errorBit, unitStart, pidOf, scrambledBits, controlOf, counterOf, payloadAt, payloadOf, headerOf}
 use Rattle.continuity.specs.declared.Counted.{Counted}
@@ -22,19 +22,19 @@ use Rattle.programmes.specs.Listing.{nullPid}
 use Rattle.calls.specs.declared.Core.{Core}
 use Rattle.calls.specs.Cores.{Held, roomFor, withHalf, droppedRoom}
 use Rattle.calls.specs.Sync.{Synced, inSync, whileLost, syncedOf}
-use Rattle.calls.specs.Steps.{Step, Absorbed, packetEvents, also, sectionsTaken, scramblingEvents, counted, step1, step2, step4, step5}
-use Rattle.payloads.specs.Taking.{held}
+use Rattle.calls.specs.Steps.{arrival, AfterStep, Absorbed, packetEvents, also, sectionsTaken, scramblingEvents, counted, step1, step2, step4, step5}
+use Rattle.payloads.specs.inner.Taking.{held}
 use Rattle.steps.proofs.Rooms.{room-kept}
-use Rattle.steps.specs.Judging.{Done, faultEvents, CaughtAs, coursed}
+use Rattle.steps.specs.inner.Judging.{Done, faultEvents, CaughtAs, coursed}
 
 -- A STEP done is done by any name
-pub done-as : {x y : Step} {most : ℕ} {c : Core} {cs m before : List ℕ} {n : ℕ} {after : List ℕ} {r : ℕ} → x ≡ y
+pub done-as : {x y : AfterStep} {most : ℕ} {c : Core} {cs m before : List ℕ} {n : ℕ} {after : List ℕ} {r : ℕ} → x ≡ y
     → Done x most c cs m before n after r → Done y most c cs m before n after r
 done-as {most = most} {c = c} {cs = cs} {m = m} {before = before} {n = n} {after = after} {r = r} e d =
     subst (λ x. Done x most c cs m before n after r) e d
 
 -- a step that changes nothing but a room, with no event
-abbrev pub quiet : Held → List ℕ → Step
+abbrev pub quiet : Held → List ℕ → AfterStep
 quiet h cs = record { held = h; counters = cs; events = [] }
 
 pub done-quiet : (h : Held) (cs : List ℕ) (most : ℕ) (list : List ℕ) (n : ℕ) → Done (quiet h cs) most (h .core) cs (h .memory) list n list n
@@ -48,7 +48,7 @@ pub done-from : {g h : Held} {cs : List ℕ} {most : ℕ} {list : List ℕ} {n :
 done-from {g = g} {cs = cs} {most = most} {list = list} {n = n} e d = subst (λ h. Done (quiet h cs) most (g .core) cs (g .memory) list n list n) e d
 
 -- events, then a step
-pub done-also : (x : Step) (es : List Event) (k most : ℕ) (c : Core) (cs m before : List ℕ) (n : ℕ) (mid : List ℕ) (i : ℕ) (after : List ℕ) (r : ℕ)
+pub done-also : (x : AfterStep) (es : List Event) (k most : ℕ) (c : Core) (cs m before : List ℕ) (n : ℕ) (mid : List ℕ) (i : ℕ) (after : List ℕ) (r : ℕ)
     → i ≡ n + length es → mid ≡ eventsLaid before n es → i ≤ n + k → Done x most c cs m mid i after r
     → Done (also es x) (k + most) c cs m before n after r
 done-also x es k most c cs m before n mid i after r ei el few d =
@@ -113,9 +113,9 @@ module _ (t : ℕ) (p table : List ℕ) (c : Core) (m : List ℕ) (taking : Bool
       same false = room-kept (set (c .half) room 0) c (pidOf p)
 
       a : Absorbed
-      a = sectionsTaken t room (pidOf p) (unitStart p) (payloadOf p) (kept b)
+      a = sectionsTaken (arrival t room (pidOf p)) (unitStart p) (payloadOf p) (kept b)
 
-      after : Held → List Event → Step
+      after : Held → List Event → AfterStep
       after h es = record { held = h; counters = table; events = es }
 
       go : (x y : Bool)
@@ -134,7 +134,7 @@ module _ (t : ℕ) (p : List ℕ) (r : ℕ) (keep : Bool) (cs : List ℕ) (h : H
   left-out take e = rw e
 
   pub taken-in : (take : Bool) → take ≡ true
-      → (let a = sectionsTaken t r (pidOf p) (unitStart p) (payloadOf p) left in record { held = a .held; counters = cs; events = a .events }) ≡ coursed t p r keep take cs h
+      → (let a = sectionsTaken (arrival t r (pidOf p)) (unitStart p) (payloadOf p) left in record { held = a .held; counters = cs; events = a .events }) ≡ coursed t p r keep take cs h
   taken-in take e = rw e
 
 -- the core after step 4
@@ -154,7 +154,7 @@ module _ (t : ℕ) (p cs : List ℕ) (c : Core) (j : Counted) (verdict : j ≡ c
   abbrev counterTable : List ℕ
   counterTable = set cs (pidOf p) (j .byte)
 
-  abbrev from : Counted → Step
+  abbrev from : Counted → AfterStep
   from j = also (continuityEvents t (pidOf p) (j .event)) (step5 t p (j .take) (set cs (pidOf p) (j .byte)) (cond (j .keep) (held c m) (droppedRoom counterRoom (held c m))))
 
   pub counter-scrambled : scrambledBits p ≡ true

@@ -20,19 +20,21 @@ ghost use mathlib.Core.Bool.{true, cond};
 ghost use mathlib.Core.List.{List, [], _∷_};
 ghost use Prim.Native.Nat.{ℕ, _+_, _<_, _≤_};
 ghost use lib.ListN.{length, set};
-ghost use Rattle.events.specs.Room.{leastRoom, numberRoom};
+ghost use Rattle.events.specs.Capacity.{leastCapacity, numberCapacity};
 ghost use Rattle.events.specs.Events.{eventsLaid};
 ghost use Rattle.events.specs.Faults.{continuityError};
 ghost use Rattle.watches.specs.Tables.{fixedTables};
-ghost use Rattle.header.specs.Header.{headerOf, Seen};
+ghost use Rattle.header.specs.Header.{headerOf};
+ghost use Rattle.header.specs.inner.Reads.{ReadOff};
 ghost use Rattle.sections.specs.Rooms.{roomCount};
 ghost use Rattle.programmes.specs.Listing.{mostListed};
 ghost use Rattle.programmes.specs.Places.{isListed};
 ghost use Rattle.calls.specs.Cores.{fixedRoom, listRoom, roomFor, withHalf};
 ghost use Rattle.calls.specs.Steps.{scramblingEvents, step1, step2, step4};
-ghost use Rattle.arrays.specs.Lent.{wordCount, countIn, listedIn, halvesIn, coreIn, Sized, LatestKept, SyncKept, Moved, SyncTold, coreWordCount};
-ghost use Rattle.payloads.specs.Taking.{held};
-ghost use Rattle.steps.specs.Judging.{Ready, Judgeable, Done, faultEvents, coursed};
+ghost use Rattle.arrays.specs.Lent.{wordCount, countIn, listedIn, halvesIn, coreIn, coreWordCount};
+ghost use Rattle.arrays.specs.inner.Kept.{Sized, LatestKept, SyncKept, Moved, SyncTold};
+ghost use Rattle.payloads.specs.inner.Taking.{held};
+ghost use Rattle.steps.specs.inner.Judging.{Ready, Judgeable, Done, faultEvents, coursed};
 
 // What step 1 says: the next place for an event, and whether the packet is judged further.
 struct Caught {
@@ -113,7 +115,7 @@ fn keep_room(words: &mut [u16], room: usize, keep: bool)
 
 // Step 5 on a packet that is scrambled: its event, if it has one.
 fn judge_scrambled(words: &[u16], time: u64, pid: u16, numbers: &mut [u64], n: usize) -> usize
-    requires { ⌜ (length (now words) ≡ wordCount) × (countIn (now words) ≤ mostListed) × (n < leastRoom) × (numberRoom ≤ length (now numbers)) ⌝ }
+    requires { ⌜ (length (now words) ≡ wordCount) × (countIn (now words) ≤ mostListed) × (n < leastCapacity) × (numberCapacity ≤ length (now numbers)) ⌝ }
     ensures { λ r. ⌜ ((times : List ℕ) → (r ≡ n + length (scramblingEvents time (coreIn times (now (words .entry))) pid))
         × (now (numbers .exit) ≡ eventsLaid (now (numbers .entry)) n (scramblingEvents time (coreIn times (now (words .entry))) pid)))
         × (r ≤ n + 1) ⌝ }
@@ -129,7 +131,7 @@ fn judge_scrambled(words: &[u16], time: u64, pid: u16, numbers: &mut [u64], n: u
 
 // The event of step 4, if there is one.
 fn judge_continuity(event: bool, time: u64, pid: u16, numbers: &mut [u64], n: usize) -> usize
-    requires { ⌜ (n < leastRoom) × (numberRoom ≤ length (now numbers)) ⌝ }
+    requires { ⌜ (n < leastCapacity) × (numberCapacity ≤ length (now numbers)) ⌝ }
     ensures { λ r. ⌜ (r ≡ n + length (faultEvents time pid (cond event (continuityError ∷ []) [])))
         × (now (numbers .exit) ≡ eventsLaid (now (numbers .entry)) n (faultEvents time pid (cond event (continuityError ∷ []) [])))
         × (r ≤ n + 1) ⌝ }
@@ -195,7 +197,7 @@ fn judge_counter(
     n: usize,
 ) -> usize
     requires { ⌜ Sized (now times) (now words) × Ready (coreIn (now times) (now words)) (now memory) (now packet) (now numbers) n 63 ⌝ }
-    requires { ⌜ Seen (now packet) (now counters) h byte × (h .pid < length (now counters)) ⌝ }
+    requires { ⌜ ReadOff (now packet) (now counters) h byte × (h .pid < length (now counters)) ⌝ }
     ensures { λ r. ⌜ Done (step4 time (now (packet .entry)) (now (counters .entry)) (held (coreIn (now (times .entry)) (now (words .entry))) (now (memory .entry)))) 63
         (coreIn (now (times .exit)) (now (words .exit))) (now (counters .exit)) (now (memory .exit)) (now (numbers .entry)) n (now (numbers .exit)) r ⌝ }
     ensures { λ r. ⌜ Moved (now (times .entry)) (now (words .entry)) (now (times .exit)) (now (words .exit)) ⌝ }
@@ -240,7 +242,7 @@ fn judge_header(
     n: usize,
 ) -> usize
     requires { ⌜ Sized (now times) (now words) × Ready (coreIn (now times) (now words)) (now memory) (now packet) (now numbers) n 63 ⌝ }
-    requires { ⌜ Seen (now packet) (now counters) h byte × (h .pid < length (now counters)) ⌝ }
+    requires { ⌜ ReadOff (now packet) (now counters) h byte × (h .pid < length (now counters)) ⌝ }
     ensures { λ r. ⌜ Done (step2 time (now (packet .entry)) (now (counters .entry)) (held (coreIn (now (times .entry)) (now (words .entry))) (now (memory .entry)))) 63
         (coreIn (now (times .exit)) (now (words .exit))) (now (counters .exit)) (now (memory .exit)) (now (numbers .entry)) n (now (numbers .exit)) r ⌝ }
     ensures { λ r. ⌜ Moved (now (times .entry)) (now (words .entry)) (now (times .exit)) (now (words .exit)) ⌝ }
@@ -279,7 +281,7 @@ pub fn judge_packet(
     n: usize,
 ) -> usize
     requires { ⌜ Sized (now times) (now words) × Judgeable (coreIn (now times) (now words)) (now packet) (now counters) (now memory) (now numbers) n ⌝ }
-    requires { ⌜ Seen (now packet) (now counters) h byte × (h .pid < length (now counters)) ⌝ }
+    requires { ⌜ ReadOff (now packet) (now counters) h byte × (h .pid < length (now counters)) ⌝ }
     ensures { λ r. ⌜ Done (step1 time (now (packet .entry)) (now (counters .entry)) (held (coreIn (now (times .entry)) (now (words .entry))) (now (memory .entry)))) 65
         (coreIn (now (times .exit)) (now (words .exit))) (now (counters .exit)) (now (memory .exit)) (now (numbers .entry)) n (now (numbers .exit)) r ⌝ }
     ensures { λ r. ⌜ LatestKept (now (times .entry)) (now (times .exit)) × SyncTold (now (words .exit)) ⌝ }

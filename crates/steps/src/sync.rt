@@ -7,10 +7,11 @@ ghost use mathlib.Core.Path.{_≡_};
 ghost use mathlib.Core.List.{List};
 ghost use Prim.Native.Nat.{ℕ, _+_, _≤_};
 ghost use lib.ListN.{length};
-ghost use Rattle.events.specs.Room.{leastRoom, numberRoom};
+ghost use Rattle.events.specs.Capacity.{leastCapacity, numberCapacity};
 ghost use Rattle.calls.specs.Sync.{syncedOf, inSync, whileLost};
-ghost use Rattle.arrays.specs.Lent.{wordCount, syncRun, coreIn, SyncTold};
-ghost use Rattle.steps.specs.Judging.{CaughtAs};
+ghost use Rattle.arrays.specs.Lent.{wordCount, syncRun, coreIn};
+ghost use Rattle.arrays.specs.inner.Kept.{SyncTold};
+ghost use Rattle.steps.specs.inner.Judging.{CaughtAs};
 
 // Step 1 in sync.
 fn judge_in_sync(
@@ -21,7 +22,7 @@ fn judge_in_sync(
     numbers: &mut [u64],
     n: usize,
 ) -> Caught
-    requires { ⌜ (length (now words) ≡ wordCount) × (n + 2 ≤ leastRoom) × (numberRoom ≤ length (now numbers)) ⌝ }
+    requires { ⌜ (length (now words) ≡ wordCount) × (n + 2 ≤ leastCapacity) × (numberCapacity ≤ length (now numbers)) ⌝ }
     ensures { λ r. ⌜ ((times : List ℕ) → CaughtAs (inSync right (coreIn times (now (words .entry)))) time pid (coreIn times (now (words .exit))) (r .further) (now (numbers .entry)) n (now (numbers .exit)) (r .n))
         × SyncTold (now (words .exit)) ⌝ }
 {
@@ -76,7 +77,7 @@ pub(crate) fn judge_sync(
     numbers: &mut [u64],
     n: usize,
 ) -> Caught
-    requires { ⌜ (length (now words) ≡ wordCount) × (n + 2 ≤ leastRoom) × (numberRoom ≤ length (now numbers)) × (syncRun (now words) ≤ 4) ⌝ }
+    requires { ⌜ (length (now words) ≡ wordCount) × (n + 2 ≤ leastCapacity) × (numberCapacity ≤ length (now numbers)) × (syncRun (now words) ≤ 4) ⌝ }
     ensures { λ r. ⌜ ((times : List ℕ) → CaughtAs (syncedOf right (coreIn times (now (words .entry)))) time pid (coreIn times (now (words .exit))) (r .further) (now (numbers .entry)) n (now (numbers .exit)) (r .n))
         × SyncTold (now (words .exit)) ⌝ }
 {

@@ -12,7 +12,7 @@ ghost use mathlib.Core.List.{[], _∷_};
 ghost use Prim.Native.Nat.{ℕ, _+_, _<_, _≤_};
 ghost use lib.Dec.{leb, ltb};
 ghost use lib.ListN.{length, getD};
-ghost use Rattle.events.specs.Room.{leastRoom, numberRoom};
+ghost use Rattle.events.specs.Capacity.{leastCapacity, numberCapacity};
 ghost use Rattle.events.specs.Events.{eventsLaid};
 ghost use Rattle.watches.specs.Tables.{fixedTables, fixedCount, tableOf, latestTime};
 ghost use Rattle.watches.specs.Late.{lateEvents, rowLate, rowsLate, tableRows, entryRow};
@@ -125,7 +125,7 @@ fn late_limit(
     fault: u16,
     id: u16,
 ) -> usize
-    requires { ⌜ (n < leastRoom) × (numberRoom ≤ length (now list)) × (since ≤ latestTime) × (limit ≤ latestTime) ⌝ }
+    requires { ⌜ (n < leastCapacity) × (numberCapacity ≤ length (now list)) × (since ≤ latestTime) × (limit ≤ latestTime) ⌝ }
     ensures { λ r. ⌜ (r ≡ n + length (lateEvents (limit ∷ []) fault id p t since))
         × (now (list .exit) ≡ eventsLaid (now (list .entry)) n (lateEvents (limit ∷ []) fault id p t since)) × (id < 65536) ⌝ }
 {
@@ -148,7 +148,7 @@ fn late_row(
     fault: u16,
     id: u16,
 ) -> usize
-    requires { ⌜ (n + length (now limits) ≤ leastRoom) × (numberRoom ≤ length (now list)) × (since ≤ latestTime) × ((i : ℕ) → getD (now limits) i 0 ≤ latestTime) ⌝ }
+    requires { ⌜ (n + length (now limits) ≤ leastCapacity) × (numberCapacity ≤ length (now list)) × (since ≤ latestTime) × ((i : ℕ) → getD (now limits) i 0 ≤ latestTime) ⌝ }
     ensures { λ r. ⌜ (r ≡ n + length (lateEvents (now (limits .entry)) fault id p t since))
         × (now (list .exit) ≡ eventsLaid (now (list .entry)) n (lateEvents (now (limits .entry)) fault id p t since)) × (id < 65536) ⌝ }
 {
@@ -163,7 +163,7 @@ fn late_row(
 
 // The late events of the fixed watches, laid from the place n on; the next place.
 pub fn late_tables(list: &mut [u64], n: usize, p: u64, t: u64, since: &[u64]) -> usize
-    requires { ⌜ (n + fixedCount ≤ leastRoom) × (numberRoom ≤ length (now list)) × (length (now since) ≡ fixedCount) × ((k : ℕ) → getD (now since) k 0 ≤ latestTime) ⌝ }
+    requires { ⌜ (n + fixedCount ≤ leastCapacity) × (numberCapacity ≤ length (now list)) × (length (now since) ≡ fixedCount) × ((k : ℕ) → getD (now since) k 0 ≤ latestTime) ⌝ }
     ensures { λ r. ⌜ (r ≡ n + length (rowsLate p t (tableRows fixedTables (now (since .entry)))))
         × (now (list .exit) ≡ eventsLaid (now (list .entry)) n (rowsLate p t (tableRows fixedTables (now (since .entry))))) ⌝ }
 {
@@ -181,7 +181,7 @@ pub fn late_tables(list: &mut [u64], n: usize, p: u64, t: u64, since: &[u64]) ->
 // The late events of a listed programme, laid from the place n on; the next place. Their id is the programme number, of
 // sixteen bits.
 pub fn late_entry(list: &mut [u64], n: usize, p: u64, t: u64, e: Entry) -> usize
-    requires { ⌜ (n < leastRoom) × (numberRoom ≤ length (now list)) × (e .since ≤ latestTime) ⌝ }
+    requires { ⌜ (n < leastCapacity) × (numberCapacity ≤ length (now list)) × (e .since ≤ latestTime) ⌝ }
     ensures { λ r. ⌜ (r ≡ n + length (rowLate p t (entryRow e))) × (now (list .exit) ≡ eventsLaid (now (list .entry)) n (rowLate p t (entryRow e))) × (e .number < 65536) ⌝ }
 {
     let r = table_of(FIXED);

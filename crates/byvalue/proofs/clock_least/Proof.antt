@@ -44,7 +44,7 @@ use denote.Triple.Walked.{says, Stays, stay-dropped, walkOf, goes-dropped, Walks
 use denote.Exit.{yes}
 use denote.Signature.{plain, shrRefTo}
 use denote.Signature.Array.{arrayOf}
-use Rattle.events.specs.Room.{leastRoom}
+use Rattle.events.specs.Capacity.{leastCapacity}
 use Rattle.sections.specs.Rooms.{memorySize}
 use Rattle.calls.specs.Calls.{clockCall, answerOf, handedOver}
 use Rattle.events.specs.declared.Event.{Event}
@@ -80,7 +80,7 @@ N = MHeldLeast.the-row
 
 -- of plain data and of a `&` nothing is kept; what is `&mut` goes for good
 abbrev stayed : Stays (f.ended .signature .params) (f.ended .kept)
-stayed = (stay-dropped (plain (λ _. MState.the-row)) yes, (stay-dropped (plain (λ _. u64)) yes, (stay-dropped (shrRefTo (0 ∷ []) tt (arrayOf (plain (λ _. u8)) memorySize)) yes, (stay-dropped (arrayOf (plain (λ _. R)) leastRoom) yes, tt))))
+stayed = (stay-dropped (plain (λ _. MState.the-row)) yes, (stay-dropped (plain (λ _. u64)) yes, (stay-dropped (shrRefTo (0 ∷ []) tt (arrayOf (plain (λ _. u8)) memorySize)) yes, (stay-dropped (arrayOf (plain (λ _. R)) leastCapacity) yes, tt))))
 
 abbrev answer-val : Answer → Val
 answer-val = LL.val MAnswer.the-type MAnswer′.the-laws
@@ -93,20 +93,20 @@ abbrev Call : {M : Type 1} (𝓤 : URA M) (H : Heap 𝓤) (A : Atoms 𝓤) (mem 
 Call 𝓤 H A mem run = tripleOf 𝓤 H A call.signature (call.spec 𝓤 H A mem run)
 
 -- what the result owes, at the machine values of its two fields
-made-of : (r : Answer) (zs : List Event) (v : Val) → Is O r (answer-val r ∷ []) → Is (Array R leastRoom) zs (v ∷ []) → Is N (record { answer = r; list = zs }) (vstruct (vcons (answer-val r) (vcons v vnil)) ∷ [])
+made-of : (r : Answer) (zs : List Event) (v : Val) → Is O r (answer-val r ∷ []) → Is (Array R leastCapacity) zs (v ∷ []) → Is N (record { answer = r; list = zs }) (vstruct (vcons (answer-val r) (vcons v vnil)) ∷ [])
 made-of r zs v is are =
     ((answer-val r ∷ [], (v ∷ [], tt)), (refl, (is, ((are .0, ((are .1 .0 .0, length-map zs (MEvent.the-field .into) ∙ are .1 .0 .1), as-field zs (are .0) (are .1 .1))), tt))))
 
 module _ {M : Type 1} (𝓤 : URA M) (H : Heap 𝓤) (A : Atoms 𝓤) (W : Given 𝓤 H A) (mem : Memory → SProp 𝓤) (run : Routine → Fun 𝓤) (κ₀ : Lft) (q₀ : Share) (state : State) (time : ℕ) (memory : RefT (List ℕ)) (ys : List Event)
-    (state-is : Is MState.the-row state ((LL.val MState.the-type MState′.the-laws (state)) ∷ [])) (time-fits : time < 2 ^ 64) (memory-is : Is (ShrRef (named 0) κ₀ (Array u8 memorySize)) memory ((vptr (memory .ptr .0) (memory .ptr .1)) ∷ [])) (ys-are : Is (Array R leastRoom) ys (array-vals event-vals ys)) where
+    (state-is : Is MState.the-row state ((LL.val MState.the-type MState′.the-laws (state)) ∷ [])) (time-fits : time < 2 ^ 64) (memory-is : Is (ShrRef (named 0) κ₀ (Array u8 memorySize)) memory ((vptr (memory .ptr .0) (memory .ptr .1)) ∷ [])) (ys-are : Is (Array R leastCapacity) ys (array-vals event-vals ys)) where
   abbrev lv : Val
   lv = only (array-vals event-vals ys)
 
-  long : length ys ≡ leastRoom
+  long : length ys ≡ leastCapacity
   long = ys-are .1 .0 .1
 
-  room : Room R (length ys)
-  room = subst (Room R) (sym long) (lit< tt, lit< tt)
+  capacity : Room R (length ys)
+  capacity = subst (Room R) (sym long) (lit< tt, lit< tt)
 
   abbrev Arg : Type 0
   Arg = State × (ℕ × (RefT (List ℕ) × (List Event × Unit {0})))
@@ -154,20 +154,20 @@ module _ {M : Type 1} (𝓤 : URA M) (H : Heap 𝓤) (A : Atoms 𝓤) (W : Given
   module _ (C : Calls 𝓤 H) (Λ : Loops 𝓤 H) (fm : FmC 𝓤 H (W .laws) C) (known : Triple 𝓤 (C #call) (Call 𝓤 H A mem run)) where
     walk : ent 𝓤 (onEntry 𝓤 H A f.signature (κ₀, tt) (q₀, tt) a vals) (WpFn 𝓤 H C Λ code.function ((LL.val MState.the-type MState′.the-laws (state)) ∷ (vint w64 time) ∷ (vptr (memory .ptr .0) (memory .ptr .1)) ∷ lv ∷ []) Post)
     walk =
-        let typed = array-lawful 𝓤 H A W R (LL.lawful MEvent.the-type MEvent′.the-laws 𝓤 H A W) leastRoom .typed ys _ ys-are .0 in
-        qed W ((‵ (flft κ₀ q₀) ⊛ ‵ ftrue) ∷ ‵ (owns (MState.the-row ∷ u64 ∷ ShrRef (named 0) κ₀ (Array u8 memorySize) ∷ Array R leastRoom ∷ []) a vals) ∷ []) ∵ enter ! C Λ code.function ((LL.val MState.the-type MState′.the-laws (state)) ∷ (vint w64 time) ∷ (vptr (memory .ptr .0) (memory .ptr .1)) ∷ lv ∷ []) _ $
+        let typed = array-lawful 𝓤 H A W R (LL.lawful MEvent.the-type MEvent′.the-laws 𝓤 H A W) leastCapacity .typed ys _ ys-are .0 in
+        qed W ((‵ (flft κ₀ q₀) ⊛ ‵ ftrue) ∷ ‵ (owns (MState.the-row ∷ u64 ∷ ShrRef (named 0) κ₀ (Array u8 memorySize) ∷ Array R leastCapacity ∷ []) a vals) ∷ []) ∵ enter ! C Λ code.function ((LL.val MState.the-type MState′.the-laws (state)) ∷ (vint w64 time) ∷ (vptr (memory .ptr .0) (memory .ptr .1)) ∷ lv ∷ []) _ $
         alloc1 ! (λ l₀. alloc1 ! (λ l₁. alloc1 ! (λ l₂. alloc1 ! (λ l₃. alloc1 ! (λ l₄. alloc1 ! (λ l₅. alloc1 ! (λ l₆. alloc1 ! (λ l₇. alloc1 ! (λ l₈. alloc1 ! (λ l₉. alloc0 ! $ params1 ! $
         pass1 ! (init ! 16 refl (LL.lawful MState.the-type MState′.the-laws 𝓤 H A W .typed state _ state-is .0)) $ pass1 ! (init ! 14 refl (tt, record { fits = time-fits })) $ pass1 ! (init ! 12 refl (tt, tt)) $ pass1 ! (init ! 10 refl typed) $ pass0 ! $
         move ! (21 ∷ []) $ fsplit ! $ drop ! $ fsplit ! $ drop ! $ fsplit ! $ move ! (1 ∷ []) $ fsplit ! $ move ! (1 ∷ []) $ drop ! $ move ! (22 ∷ []) $ split ! $ move ! (1 ∷ []) $ drop ! $
         -- the list is copied, and is a row of records
         assigns ! (of-opd ! (load ! (from ! (stop !)) (look ! 13 refl))) (from ! (stop !)) (init ! 11 refl typed) $
-        move ! (11 ∷ 1 ∷ []) $ use2 W (‵ (row R fullShare ys l₅ 0)) (made 𝓤 H A W R tt leastRoom l₅ ys lv) $
+        move ! (11 ∷ 1 ∷ []) $ use2 W (‵ (row R fullShare ys l₅ 0)) (made 𝓤 H A W R tt leastCapacity l₅ ys lv) $
         assigns ! (addr ! (from ! (stop !))) (from ! (stop !)) (init ! 7 refl (tt, tt)) $
         assigns ! (agg ! (and-then ! (load ! (from ! (stop !)) (look ! 7 refl)) (and-then ! (lit ! tt) (no-more !)))) (from ! (stop !)) (init ! 5 refl (tt, (tt, (record { fits = lit< tt }, tt)))) $
         rewrite ! 5 (λ (m : ℕ). ‵ (fat fullShare (sliceTy (tyRef erased mut (pointee (R .written)))) l₈ 0 (sliceVal (l₅, 0) m))) (sym long) refl $
         -- `probe::clock`: the list is lent for a lifetime ν of the call
         lft-new ! tt (λ ν.
-        move ! (1 ∷ []) $ use1 W (later (some (λ (δ : GName). ‵ (MutSlice (named 1) (ν ∷ []) R .own (yx l₅ δ) (sliceVal (l₅, 0) (length ys) ∷ [])) ⊛ ‵ (flent (ν ∷ []) (Held R (length ys) l₅ 0 δ))))) (lend-mut 𝓤 H A W R tt leastRoom l₅ (named 1) (ν ∷ []) ys room) $ await ! tt $ pick ! (λ δ. split ! $
+        move ! (1 ∷ []) $ use1 W (later (some (λ (δ : GName). ‵ (MutSlice (named 1) (ν ∷ []) R .own (yx l₅ δ) (sliceVal (l₅, 0) (length ys) ∷ [])) ⊛ ‵ (flent (ν ∷ []) (Held R (length ys) l₅ 0 δ))))) (lend-mut 𝓤 H A W R tt leastCapacity l₅ (named 1) (ν ∷ []) ys capacity) $ await ! tt $ pick ! (λ δ. split ! $
         nothing ! $ move ! (3 ∷ 0 ∷ []) $ join ! $ move ! (3 ∷ 0 ∷ []) $ join ! $ move ! (0 ∷ 1 ∷ 3 ∷ []) $ group ! 3 $ use1 W (raw (Call 𝓤 H A mem run .pre (to-call l₅ ν δ))) (goes-call l₅ ν δ) $
         calls-at ! fm (Call 𝓤 H A mem run) known (to-call l₅ ν δ) (and-then ! (load ! (from ! (stop !)) (look ! 17 refl)) (and-then ! (load ! (from ! (stop !)) (look ! 15 refl)) (and-then ! (load ! (from ! (stop !)) (look ! 13 refl)) (and-then ! (load ! (from ! (stop !)) (look ! 4 refl)) (no-more !))))) (λ w.
         use1 W (later (some (λ (r : Answer). ((‵ (flft κ₀ q₀) ⊛ ‵ (flft (ν ∷ []) fullShare) ⊛ ‵ ftrue) ⊛ ‵ (O .own r (w ∷ []))) ⊛ raw (ensured 𝓤 H A call.ended (call.clauses 𝓤 H A mem run) (κ₀, (ν ∷ [], tt)) (call-args l₅ δ) tt r)))) (id⊢ 𝓤 _) $ await ! tt $ pick ! (λ r. split ! $ move ! (1 ∷ []) $
@@ -177,11 +177,11 @@ module _ {M : Type 1} (𝓤 : URA M) (H : Heap 𝓤) (A : Atoms 𝓤) (W : Given
         let told = LL.tells MAnswer.the-type MAnswer′.the-laws r (w ∷ []) is in
         land ! (from ! (stop !)) (init ! 11 refl (LL.lawful MAnswer.the-type MAnswer′.the-laws 𝓤 H A W .typed r _ is .0)) $ rewrite ! 11 (λ (u : Val). ‵ (fat fullShare MAnswer′.mir l₆ 0 u)) (ap only told) refl $ drop ! $
         -- the tokens are told apart, the lifetime is ended, and the list comes back and is read whole
-        split ! $ move ! (1 ∷ []) $ split ! $ lft-end ! tt $ move ! (0 ∷ 5 ∷ 4 ∷ []) $ use3 W (later (‵ (row R fullShare (zs .1 .1 .1 .0) l₅ 0))) (back-mut 𝓤 H A W R tt leastRoom l₅ (ν ∷ []) δ (length ys) (zs .1 .1 .1 .0)) $ await ! tt $ move ! (3 ∷ []) $ drop ! $
-        move ! (0 ∷ []) $ use1 W (some (λ (v : Val). ‵ (fat fullShare (tyArray (lone (R .mir)) leastRoom) l₅ 0 v) ⊛ ‵ (Array R leastRoom .own (zs .1 .1 .1 .0) (v ∷ [])))) (whole-again 𝓤 H A W R tt leastRoom l₅ (zs .1 .1 .1 .0) (l-list ∙ long)) $ pick ! (λ v. split ! $ move ! (1 ∷ []) $
-        peeks ! (Array R leastRoom) (Is (Array R leastRoom)) (shows 𝓤 H A (Array R leastRoom)) (zs .1 .1 .1 .0) (v ∷ []) (λ are. drop ! $
+        split ! $ move ! (1 ∷ []) $ split ! $ lft-end ! tt $ move ! (0 ∷ 5 ∷ 4 ∷ []) $ use3 W (later (‵ (row R fullShare (zs .1 .1 .1 .0) l₅ 0))) (back-mut 𝓤 H A W R tt leastCapacity l₅ (ν ∷ []) δ (length ys) (zs .1 .1 .1 .0)) $ await ! tt $ move ! (3 ∷ []) $ drop ! $
+        move ! (0 ∷ []) $ use1 W (some (λ (v : Val). ‵ (fat fullShare (tyArray (lone (R .mir)) leastCapacity) l₅ 0 v) ⊛ ‵ (Array R leastCapacity .own (zs .1 .1 .1 .0) (v ∷ [])))) (whole-again 𝓤 H A W R tt leastCapacity l₅ (zs .1 .1 .1 .0) (l-list ∙ long)) $ pick ! (λ v. split ! $ move ! (1 ∷ []) $
+        peeks ! (Array R leastCapacity) (Is (Array R leastCapacity)) (shows 𝓤 H A (Array R leastCapacity)) (zs .1 .1 .1 .0) (v ∷ []) (λ are. drop ! $
         let owes = made-of r (zs .1 .1 .1 .0) v (subst (Is O r) told is) are in
-        assigns ! (of-opd ! (load ! (from ! (stop !)) (look ! 0 refl))) (from ! (stop !)) (init ! 3 refl (array-lawful 𝓤 H A W R (LL.lawful MEvent.the-type MEvent′.the-laws 𝓤 H A W) leastRoom .typed (zs .1 .1 .1 .0) _ are .0)) $
+        assigns ! (of-opd ! (load ! (from ! (stop !)) (look ! 0 refl))) (from ! (stop !)) (init ! 3 refl (array-lawful 𝓤 H A W R (LL.lawful MEvent.the-type MEvent′.the-laws 𝓤 H A W) leastCapacity .typed (zs .1 .1 .1 .0) _ are .0)) $
         assigns ! (agg ! (and-then ! (load ! (from ! (stop !)) (look ! 9 refl)) (and-then ! (load ! (from ! (stop !)) (look ! 3 refl)) (no-more !)))) (from ! (stop !)) (init ! 20 refl (LL.lawful MHeldLeast.the-type MHeldLeast′.the-laws 𝓤 H A W .typed (record { answer = r; list = zs .1 .1 .1 .0 }) _ owes .0)) $
         returns ! (look ! 20 refl) $ forget ! 20 refl $ forget ! 18 refl $ forget ! 16 refl $ forget ! 14 refl $ forget ! 12 refl $ forget ! 0 refl $ forget ! 9 refl $ forget ! 7 refl $ forget ! 5 refl $ forget ! 3 refl $
         move ! (20 ∷ 21 ∷ []) $ free1 ! $ move ! (18 ∷ 19 ∷ []) $ free1 ! $ move ! (16 ∷ 17 ∷ []) $ free1 ! $ move ! (14 ∷ 15 ∷ []) $ free1 ! $ move ! (12 ∷ 13 ∷ []) $ free1 ! $ move ! (0 ∷ 11 ∷ []) $ free1 ! $ move ! (8 ∷ 9 ∷ []) $ free1 ! $ move ! (6 ∷ 7 ∷ []) $ free1 ! $ move ! (4 ∷ 5 ∷ []) $ free1 ! $ move ! (2 ∷ 3 ∷ []) $ free1 ! $ free0 ! $
@@ -190,14 +190,14 @@ module _ {M : Type 1} (𝓤 : URA M) (H : Heap 𝓤) (A : Atoms 𝓤) (W : Given
 module _ {M : Type 1} (𝓤 : URA M) (H : Heap 𝓤) (A : Atoms 𝓤) (W : Given 𝓤 H A) (mem : Memory → SProp 𝓤) (run : Routine → Fun 𝓤) where
   clock-least-walks : (C : Calls 𝓤 H) (Λ : Loops 𝓤 H) → FmC 𝓤 H (W .laws) C → Triple 𝓤 (C #call) (Call 𝓤 H A mem run) → Walks 𝓤 H A f.ended stayed (WpFn 𝓤 H C Λ code.function) (f.clauses 𝓤 H A mem run)
   clock-least-walks C Λ fm known = walked 𝓤 H A f.ended stayed (f.clauses 𝓤 H A mem run) (WpFn 𝓤 H C Λ code.function)
-      (λ κs. (LL.vals MState.the-type MState′.the-laws, (uint-vals w64, (ptr-vals, (array-vals event-vals, tt))))) (λ κs. (LL.tells MState.the-type MState′.the-laws, (uint-tells w64, (shr-tells (named 0) (κs .0) (Array u8 memorySize), (array-tells R event-vals (LL.tells MEvent.the-type MEvent′.the-laws) leastRoom, tt)))))
+      (λ κs. (LL.vals MState.the-type MState′.the-laws, (uint-vals w64, (ptr-vals, (array-vals event-vals, tt))))) (λ κs. (LL.tells MState.the-type MState′.the-laws, (uint-tells w64, (shr-tells (named 0) (κs .0) (Array u8 memorySize), (array-tells R event-vals (LL.tells MEvent.the-type MEvent′.the-laws) leastCapacity, tt)))))
       (λ κs qs bounds a g are. via 𝓤 _ (fst∗ 𝓤 _ (emp 𝓤))
       (walk 𝓤 H A W mem run (κs .0) (qs .0) (a .0) (a .1 .0) (a .1 .1 .0) (a .1 .1 .1 .0) (are .0) (are .1 .0 .1) (are .1 .1 .0) (are .1 .1 .1 .0) C Λ fm known))
 
 clock-least-meets : {M : Type 1} (𝓤 : URA M) (H : Heap 𝓤) (A : Atoms 𝓤) → Given 𝓤 H A → (mem : Memory → SProp 𝓤) (run : Routine → Fun 𝓤) (𝓣 : Tables 𝓤 H)
     → Triple 𝓤 (𝓣 .C #call) (Call 𝓤 H A mem run) → Meets 𝓤 H A f.signature (WpFn 𝓤 H (𝓣 .C) (𝓣 .Λ) code.function) (f.spec 𝓤 H A mem run)
 clock-least-meets 𝓤 H A W mem run 𝓣 known =
-    walk-meets 𝓤 H A f.ended stayed W (goes-dropped 𝓤 H A W 1 (plain (λ _. MState.the-row)) yes (λ κs x f. refl), (goes-dropped 𝓤 H A W 1 (plain (λ _. u64)) yes (λ κs x f. refl), (goes-dropped 𝓤 H A W 1 (shrRefTo (0 ∷ []) tt (arrayOf (plain (λ _. u8)) memorySize)) yes (λ κs x f. refl), (goes-dropped 𝓤 H A W 1 (arrayOf (plain (λ _. R)) leastRoom) yes (λ κs x f. refl), tt)))) (f.clauses 𝓤 H A mem run)
+    walk-meets 𝓤 H A f.ended stayed W (goes-dropped 𝓤 H A W 1 (plain (λ _. MState.the-row)) yes (λ κs x f. refl), (goes-dropped 𝓤 H A W 1 (plain (λ _. u64)) yes (λ κs x f. refl), (goes-dropped 𝓤 H A W 1 (shrRefTo (0 ∷ []) tt (arrayOf (plain (λ _. u8)) memorySize)) yes (λ κs x f. refl), (goes-dropped 𝓤 H A W 1 (arrayOf (plain (λ _. R)) leastCapacity) yes (λ κs x f. refl), tt)))) (f.clauses 𝓤 H A mem run)
     (WpFn 𝓤 H (𝓣 .C) (𝓣 .Λ) code.function) (WpFn-mono 𝓤 H (W .laws) 𝓣 code.function) (clock-least-walks 𝓤 H A W mem run (𝓣 .C) (𝓣 .Λ) (fmOf 𝓤 H (W .laws) 𝓣) known)
 
 pub clock-least-spec : {M : Type 1} → stated.statement M

@@ -44,7 +44,7 @@ use denote.Triple.Walked.{says, Stays, gave-slice, gave-ref, stay-dropped, walkO
 use denote.Exit.{yes}
 use denote.Signature.{plain, shrSliceOf}
 use denote.Signature.Array.{arrayOf}
-use Rattle.events.specs.Room.{leastRoom}
+use Rattle.events.specs.Capacity.{leastCapacity}
 use Rattle.sections.specs.Rooms.{memorySize}
 use Rattle.calls.specs.Calls.{packetCall, answerOf, handedOver}
 use Rattle.events.specs.declared.Event.{Event}
@@ -80,7 +80,7 @@ N = MHeldLeast.the-row
 
 -- of plain data and of a `&` nothing is kept; what is `&mut` goes for good
 abbrev stayed : Stays (f.ended .signature .params) (f.ended .kept)
-stayed = (stay-dropped (plain (λ _. MState.the-row)) yes, (stay-dropped (plain (λ _. u64)) yes, (stay-dropped (shrSliceOf (0 ∷ []) tt (plain (λ _. u8))) yes, (gave-slice (1 ∷ []) tt (plain (λ _. u8)), (gave-ref (2 ∷ []) tt (arrayOf (plain (λ _. u8)) memorySize), (stay-dropped (arrayOf (plain (λ _. R)) leastRoom) yes, tt))))))
+stayed = (stay-dropped (plain (λ _. MState.the-row)) yes, (stay-dropped (plain (λ _. u64)) yes, (stay-dropped (shrSliceOf (0 ∷ []) tt (plain (λ _. u8))) yes, (gave-slice (1 ∷ []) tt (plain (λ _. u8)), (gave-ref (2 ∷ []) tt (arrayOf (plain (λ _. u8)) memorySize), (stay-dropped (arrayOf (plain (λ _. R)) leastCapacity) yes, tt))))))
 
 abbrev answer-val : Answer → Val
 answer-val = LL.val MAnswer.the-type MAnswer′.the-laws
@@ -93,20 +93,20 @@ abbrev Call : {M : Type 1} (𝓤 : URA M) (H : Heap 𝓤) (A : Atoms 𝓤) (mem 
 Call 𝓤 H A mem run = tripleOf 𝓤 H A call.signature (call.spec 𝓤 H A mem run)
 
 -- what the result owes, at the machine values of its two fields
-made-of : (r : Answer) (zs : List Event) (v : Val) → Is O r (answer-val r ∷ []) → Is (Array R leastRoom) zs (v ∷ []) → Is N (record { answer = r; list = zs }) (vstruct (vcons (answer-val r) (vcons v vnil)) ∷ [])
+made-of : (r : Answer) (zs : List Event) (v : Val) → Is O r (answer-val r ∷ []) → Is (Array R leastCapacity) zs (v ∷ []) → Is N (record { answer = r; list = zs }) (vstruct (vcons (answer-val r) (vcons v vnil)) ∷ [])
 made-of r zs v is are =
     ((answer-val r ∷ [], (v ∷ [], tt)), (refl, (is, ((are .0, ((are .1 .0 .0, length-map zs (MEvent.the-field .into) ∙ are .1 .0 .1), as-field zs (are .0) (are .1 .1))), tt))))
 
 module _ {M : Type 1} (𝓤 : URA M) (H : Heap 𝓤) (A : Atoms 𝓤) (W : Given 𝓤 H A) (mem : Memory → SProp 𝓤) (run : Routine → Fun 𝓤) (κ₀ κ₁ κ₂ : Lft) (q₀ q₁ q₂ : Share) (state : State) (time : ℕ) (packet : RefT (List ℕ)) (counters : RefT (List ℕ)) (memory : RefT (List ℕ)) (ys : List Event)
-    (state-is : Is MState.the-row state ((LL.val MState.the-type MState′.the-laws (state)) ∷ [])) (time-fits : time < 2 ^ 64) (packet-is : Is (ShrSlice (named 0) κ₀ u8) packet ((sliceVal (packet .ptr) (length (packet .now))) ∷ [])) (counters-is : Is (MutSlice (named 1) κ₁ u8) counters ((sliceVal (counters .ptr) (length (counters .now))) ∷ [])) (memory-is : Is (MutRef (named 2) κ₂ (Array u8 memorySize)) memory ((vptr (memory .ptr .0) (memory .ptr .1)) ∷ [])) (ys-are : Is (Array R leastRoom) ys (array-vals event-vals ys)) where
+    (state-is : Is MState.the-row state ((LL.val MState.the-type MState′.the-laws (state)) ∷ [])) (time-fits : time < 2 ^ 64) (packet-is : Is (ShrSlice (named 0) κ₀ u8) packet ((sliceVal (packet .ptr) (length (packet .now))) ∷ [])) (counters-is : Is (MutSlice (named 1) κ₁ u8) counters ((sliceVal (counters .ptr) (length (counters .now))) ∷ [])) (memory-is : Is (MutRef (named 2) κ₂ (Array u8 memorySize)) memory ((vptr (memory .ptr .0) (memory .ptr .1)) ∷ [])) (ys-are : Is (Array R leastCapacity) ys (array-vals event-vals ys)) where
   abbrev lv : Val
   lv = only (array-vals event-vals ys)
 
-  long : length ys ≡ leastRoom
+  long : length ys ≡ leastCapacity
   long = ys-are .1 .0 .1
 
-  room : Room R (length ys)
-  room = subst (Room R) (sym long) (lit< tt, lit< tt)
+  capacity : Room R (length ys)
+  capacity = subst (Room R) (sym long) (lit< tt, lit< tt)
 
   abbrev Arg : Type 0
   Arg = State × (ℕ × (RefT (List ℕ) × (RefT (List ℕ) × (RefT (List ℕ) × (List Event × Unit {0})))))
@@ -160,14 +160,14 @@ module _ {M : Type 1} (𝓤 : URA M) (H : Heap 𝓤) (A : Atoms 𝓤) (W : Given
   module _ (C : Calls 𝓤 H) (Λ : Loops 𝓤 H) (fm : FmC 𝓤 H (W .laws) C) (known : Triple 𝓤 (C #call) (Call 𝓤 H A mem run)) where
     walk : ent 𝓤 (onEntry 𝓤 H A f.signature (κ₀, (κ₁, (κ₂, tt))) (q₀, (q₁, (q₂, tt))) a vals) (WpFn 𝓤 H C Λ code.function ((LL.val MState.the-type MState′.the-laws (state)) ∷ (vint w64 time) ∷ (sliceVal (packet .ptr) (length (packet .now))) ∷ (sliceVal (counters .ptr) (length (counters .now))) ∷ (vptr (memory .ptr .0) (memory .ptr .1)) ∷ lv ∷ []) Post)
     walk =
-        let typed = array-lawful 𝓤 H A W R (LL.lawful MEvent.the-type MEvent′.the-laws 𝓤 H A W) leastRoom .typed ys _ ys-are .0 in
-        qed W ((‵ (flft κ₀ q₀) ⊛ ‵ (flft κ₁ q₁) ⊛ ‵ (flft κ₂ q₂) ⊛ ‵ ftrue) ∷ ‵ (owns (MState.the-row ∷ u64 ∷ ShrSlice (named 0) κ₀ u8 ∷ MutSlice (named 1) κ₁ u8 ∷ MutRef (named 2) κ₂ (Array u8 memorySize) ∷ Array R leastRoom ∷ []) a vals) ∷ []) ∵ enter ! C Λ code.function ((LL.val MState.the-type MState′.the-laws (state)) ∷ (vint w64 time) ∷ (sliceVal (packet .ptr) (length (packet .now))) ∷ (sliceVal (counters .ptr) (length (counters .now))) ∷ (vptr (memory .ptr .0) (memory .ptr .1)) ∷ lv ∷ []) _ $
+        let typed = array-lawful 𝓤 H A W R (LL.lawful MEvent.the-type MEvent′.the-laws 𝓤 H A W) leastCapacity .typed ys _ ys-are .0 in
+        qed W ((‵ (flft κ₀ q₀) ⊛ ‵ (flft κ₁ q₁) ⊛ ‵ (flft κ₂ q₂) ⊛ ‵ ftrue) ∷ ‵ (owns (MState.the-row ∷ u64 ∷ ShrSlice (named 0) κ₀ u8 ∷ MutSlice (named 1) κ₁ u8 ∷ MutRef (named 2) κ₂ (Array u8 memorySize) ∷ Array R leastCapacity ∷ []) a vals) ∷ []) ∵ enter ! C Λ code.function ((LL.val MState.the-type MState′.the-laws (state)) ∷ (vint w64 time) ∷ (sliceVal (packet .ptr) (length (packet .now))) ∷ (sliceVal (counters .ptr) (length (counters .now))) ∷ (vptr (memory .ptr .0) (memory .ptr .1)) ∷ lv ∷ []) _ $
         alloc1 ! (λ l₀. alloc1 ! (λ l₁. alloc1 ! (λ l₂. alloc1 ! (λ l₃. alloc1 ! (λ l₄. alloc1 ! (λ l₅. alloc1 ! (λ l₆. alloc1 ! (λ l₇. alloc1 ! (λ l₈. alloc1 ! (λ l₉. alloc1 ! (λ l₁₀. alloc1 ! (λ l₁₁. alloc1 ! (λ l₁₂. alloc1 ! (λ l₁₃. alloc1 ! (λ l₁₄. alloc0 ! $ params1 ! $
         pass1 ! (init ! 26 refl (LL.lawful MState.the-type MState′.the-laws 𝓤 H A W .typed state _ state-is .0)) $ pass1 ! (init ! 24 refl (tt, record { fits = time-fits })) $ pass1 ! (init ! 22 refl (shr-slice-lawful 𝓤 H A W (named 0) κ₀ u8 .typed packet _ packet-is .0)) $ pass1 ! (init ! 20 refl (tt, (tt, (record { fits = counters-is .0 .1 .0 }, tt)))) $ pass1 ! (init ! 18 refl (tt, tt)) $ pass1 ! (init ! 16 refl typed) $ pass0 ! $
         move ! (31 ∷ []) $ fsplit ! $ drop ! $ fsplit ! $ drop ! $ fsplit ! $ move ! (1 ∷ []) $ fsplit ! $ move ! (1 ∷ []) $ fsplit ! $ move ! (1 ∷ []) $ fsplit ! $ move ! (1 ∷ []) $ drop ! $ move ! (34 ∷ []) $ split ! $ move ! (1 ∷ []) $ split ! $ move ! (1 ∷ []) $ split ! $ move ! (1 ∷ []) $ drop ! $
         -- the list is copied, and is a row of records
         assigns ! (of-opd ! (load ! (from ! (stop !)) (look ! 23 refl))) (from ! (stop !)) (init ! 21 refl typed) $
-        move ! (21 ∷ 3 ∷ []) $ use2 W (‵ (row R fullShare ys l₇ 0)) (made 𝓤 H A W R tt leastRoom l₇ ys lv) $
+        move ! (21 ∷ 3 ∷ []) $ use2 W (‵ (row R fullShare ys l₇ 0)) (made 𝓤 H A W R tt leastCapacity l₇ ys lv) $
         assigns ! (addr ! (from ! (fld ! refl (hop ! (look-in ! 26 (sub ! 0 refl (whole !))) (stop !))))) (from ! (stop !)) (init ! 17 refl (tt, tt)) $
         assigns ! (agg ! (and-then ! (load ! (from ! (stop !)) (look ! 17 refl)) (and-then ! (load ! (from ! (fld ! refl (stop !))) (look-in ! 26 (sub ! 1 refl (whole !)))) (no-more !)))) (from ! (stop !)) (init ! 15 refl (tt, (tt, (record { fits = counters-is .0 .1 .0 }, tt)))) $
         assigns ! (addr ! (from ! (hop ! (look ! 24 refl) (stop !)))) (from ! (stop !)) (init ! 13 refl (tt, tt)) $
@@ -176,7 +176,7 @@ module _ {M : Type 1} (𝓤 : URA M) (H : Heap 𝓤) (A : Atoms 𝓤) (W : Given
         rewrite ! 9 (λ (m : ℕ). ‵ (fat fullShare (sliceTy (tyRef erased mut (pointee (R .written)))) l₁₃ 0 (sliceVal (l₇, 0) m))) (sym long) refl $
         -- `probe::packet`: the list is lent for a lifetime ν of the call
         lft-new ! tt (λ ν.
-        move ! (1 ∷ []) $ use1 W (later (some (λ (δ : GName). ‵ (MutSlice (named 3) (ν ∷ []) R .own (yx l₇ δ) (sliceVal (l₇, 0) (length ys) ∷ [])) ⊛ ‵ (flent (ν ∷ []) (Held R (length ys) l₇ 0 δ))))) (lend-mut 𝓤 H A W R tt leastRoom l₇ (named 3) (ν ∷ []) ys room) $ await ! tt $ pick ! (λ δ. split ! $
+        move ! (1 ∷ []) $ use1 W (later (some (λ (δ : GName). ‵ (MutSlice (named 3) (ν ∷ []) R .own (yx l₇ δ) (sliceVal (l₇, 0) (length ys) ∷ [])) ⊛ ‵ (flent (ν ∷ []) (Held R (length ys) l₇ 0 δ))))) (lend-mut 𝓤 H A W R tt leastCapacity l₇ (named 3) (ν ∷ []) ys capacity) $ await ! tt $ pick ! (λ δ. split ! $
         nothing ! $ move ! (3 ∷ 0 ∷ []) $ join ! $ move ! (3 ∷ 0 ∷ []) $ join ! $ move ! (3 ∷ 0 ∷ []) $ join ! $ move ! (3 ∷ 0 ∷ []) $ join ! $ move ! (0 ∷ 1 ∷ 5 ∷ 4 ∷ 3 ∷ []) $ group ! 5 $ use1 W (raw (Call 𝓤 H A mem run .pre (to-call l₇ ν δ))) (goes-call l₇ ν δ) $
         calls-at ! fm (Call 𝓤 H A mem run) known (to-call l₇ ν δ) (and-then ! (load ! (from ! (stop !)) (look ! 27 refl)) (and-then ! (load ! (from ! (stop !)) (look ! 25 refl)) (and-then ! (load ! (from ! (stop !)) (look ! 23 refl)) (and-then ! (load ! (from ! (stop !)) (look ! 10 refl)) (and-then ! (load ! (from ! (stop !)) (look ! 8 refl)) (and-then ! (load ! (from ! (stop !)) (look ! 4 refl)) (no-more !))))))) (λ w.
         use1 W (later (some (λ (r : Answer). ((‵ (flft κ₀ q₀) ⊛ ‵ (flft κ₁ q₁) ⊛ ‵ (flft κ₂ q₂) ⊛ ‵ (flft (ν ∷ []) fullShare) ⊛ ‵ ftrue) ⊛ ‵ (O .own r (w ∷ []))) ⊛ raw (ensured 𝓤 H A call.ended (call.clauses 𝓤 H A mem run) (κ₀, (κ₁, (κ₂, (ν ∷ [], tt)))) (call-args l₇ δ) tt r)))) (id⊢ 𝓤 _) $ await ! tt $ pick ! (λ r. split ! $ move ! (1 ∷ []) $
@@ -186,11 +186,11 @@ module _ {M : Type 1} (𝓤 : URA M) (H : Heap 𝓤) (A : Atoms 𝓤) (W : Given
         let told = LL.tells MAnswer.the-type MAnswer′.the-laws r (w ∷ []) is in
         land ! (from ! (stop !)) (init ! 19 refl (LL.lawful MAnswer.the-type MAnswer′.the-laws 𝓤 H A W .typed r _ is .0)) $ rewrite ! 19 (λ (u : Val). ‵ (fat fullShare MAnswer′.mir l₈ 0 u)) (ap only told) refl $ drop ! $
         -- the tokens are told apart, the lifetime is ended, and the list comes back and is read whole
-        split ! $ move ! (1 ∷ []) $ split ! $ move ! (1 ∷ []) $ split ! $ move ! (1 ∷ []) $ split ! $ lft-end ! tt $ move ! (0 ∷ 9 ∷ 6 ∷ []) $ use3 W (later (‵ (row R fullShare (zs .1 .1 .1 .1 .1 .0) l₇ 0))) (back-mut 𝓤 H A W R tt leastRoom l₇ (ν ∷ []) δ (length ys) (zs .1 .1 .1 .1 .1 .0)) $ await ! tt $ move ! (5 ∷ []) $ drop ! $
-        move ! (0 ∷ []) $ use1 W (some (λ (v : Val). ‵ (fat fullShare (tyArray (lone (R .mir)) leastRoom) l₇ 0 v) ⊛ ‵ (Array R leastRoom .own (zs .1 .1 .1 .1 .1 .0) (v ∷ [])))) (whole-again 𝓤 H A W R tt leastRoom l₇ (zs .1 .1 .1 .1 .1 .0) (l-list ∙ long)) $ pick ! (λ v. split ! $ move ! (1 ∷ []) $
-        peeks ! (Array R leastRoom) (Is (Array R leastRoom)) (shows 𝓤 H A (Array R leastRoom)) (zs .1 .1 .1 .1 .1 .0) (v ∷ []) (λ are. drop ! $
+        split ! $ move ! (1 ∷ []) $ split ! $ move ! (1 ∷ []) $ split ! $ move ! (1 ∷ []) $ split ! $ lft-end ! tt $ move ! (0 ∷ 9 ∷ 6 ∷ []) $ use3 W (later (‵ (row R fullShare (zs .1 .1 .1 .1 .1 .0) l₇ 0))) (back-mut 𝓤 H A W R tt leastCapacity l₇ (ν ∷ []) δ (length ys) (zs .1 .1 .1 .1 .1 .0)) $ await ! tt $ move ! (5 ∷ []) $ drop ! $
+        move ! (0 ∷ []) $ use1 W (some (λ (v : Val). ‵ (fat fullShare (tyArray (lone (R .mir)) leastCapacity) l₇ 0 v) ⊛ ‵ (Array R leastCapacity .own (zs .1 .1 .1 .1 .1 .0) (v ∷ [])))) (whole-again 𝓤 H A W R tt leastCapacity l₇ (zs .1 .1 .1 .1 .1 .0) (l-list ∙ long)) $ pick ! (λ v. split ! $ move ! (1 ∷ []) $
+        peeks ! (Array R leastCapacity) (Is (Array R leastCapacity)) (shows 𝓤 H A (Array R leastCapacity)) (zs .1 .1 .1 .1 .1 .0) (v ∷ []) (λ are. drop ! $
         let owes = made-of r (zs .1 .1 .1 .1 .1 .0) v (subst (Is O r) told is) are in
-        assigns ! (of-opd ! (load ! (from ! (stop !)) (look ! 0 refl))) (from ! (stop !)) (init ! 7 refl (array-lawful 𝓤 H A W R (LL.lawful MEvent.the-type MEvent′.the-laws 𝓤 H A W) leastRoom .typed (zs .1 .1 .1 .1 .1 .0) _ are .0)) $
+        assigns ! (of-opd ! (load ! (from ! (stop !)) (look ! 0 refl))) (from ! (stop !)) (init ! 7 refl (array-lawful 𝓤 H A W R (LL.lawful MEvent.the-type MEvent′.the-laws 𝓤 H A W) leastCapacity .typed (zs .1 .1 .1 .1 .1 .0) _ are .0)) $
         assigns ! (agg ! (and-then ! (load ! (from ! (stop !)) (look ! 19 refl)) (and-then ! (load ! (from ! (stop !)) (look ! 7 refl)) (no-more !)))) (from ! (stop !)) (init ! 34 refl (LL.lawful MHeldLeast.the-type MHeldLeast′.the-laws 𝓤 H A W .typed (record { answer = r; list = zs .1 .1 .1 .1 .1 .0 }) _ owes .0)) $
         returns ! (look ! 34 refl) $ forget ! 34 refl $ forget ! 32 refl $ forget ! 30 refl $ forget ! 28 refl $ forget ! 26 refl $ forget ! 24 refl $ forget ! 22 refl $ forget ! 0 refl $ forget ! 19 refl $ forget ! 17 refl $ forget ! 15 refl $ forget ! 13 refl $ forget ! 11 refl $ forget ! 9 refl $ forget ! 7 refl $
         move ! (34 ∷ 35 ∷ []) $ free1 ! $ move ! (32 ∷ 33 ∷ []) $ free1 ! $ move ! (30 ∷ 31 ∷ []) $ free1 ! $ move ! (28 ∷ 29 ∷ []) $ free1 ! $ move ! (26 ∷ 27 ∷ []) $ free1 ! $ move ! (24 ∷ 25 ∷ []) $ free1 ! $ move ! (22 ∷ 23 ∷ []) $ free1 ! $ move ! (0 ∷ 21 ∷ []) $ free1 ! $ move ! (18 ∷ 19 ∷ []) $ free1 ! $ move ! (16 ∷ 17 ∷ []) $ free1 ! $ move ! (14 ∷ 15 ∷ []) $ free1 ! $ move ! (12 ∷ 13 ∷ []) $ free1 ! $ move ! (10 ∷ 11 ∷ []) $ free1 ! $ move ! (8 ∷ 9 ∷ []) $ free1 ! $ move ! (6 ∷ 7 ∷ []) $ free1 ! $ free0 ! $
@@ -199,14 +199,14 @@ module _ {M : Type 1} (𝓤 : URA M) (H : Heap 𝓤) (A : Atoms 𝓤) (W : Given
 module _ {M : Type 1} (𝓤 : URA M) (H : Heap 𝓤) (A : Atoms 𝓤) (W : Given 𝓤 H A) (mem : Memory → SProp 𝓤) (run : Routine → Fun 𝓤) where
   packet-least-walks : (C : Calls 𝓤 H) (Λ : Loops 𝓤 H) → FmC 𝓤 H (W .laws) C → Triple 𝓤 (C #call) (Call 𝓤 H A mem run) → Walks 𝓤 H A f.ended stayed (WpFn 𝓤 H C Λ code.function) (f.clauses 𝓤 H A mem run)
   packet-least-walks C Λ fm known = walked 𝓤 H A f.ended stayed (f.clauses 𝓤 H A mem run) (WpFn 𝓤 H C Λ code.function)
-      (λ κs. (LL.vals MState.the-type MState′.the-laws, (uint-vals w64, (slice-vals, (slice-vals, (ptr-vals, (array-vals event-vals, tt))))))) (λ κs. (LL.tells MState.the-type MState′.the-laws, (uint-tells w64, (shr-slice-tells (named 0) (κs .0) u8, (mut-slice-tells (named 1) (κs .1 .0) u8, (mut-tells (named 2) (κs .1 .1 .0) (Array u8 memorySize), (array-tells R event-vals (LL.tells MEvent.the-type MEvent′.the-laws) leastRoom, tt)))))))
+      (λ κs. (LL.vals MState.the-type MState′.the-laws, (uint-vals w64, (slice-vals, (slice-vals, (ptr-vals, (array-vals event-vals, tt))))))) (λ κs. (LL.tells MState.the-type MState′.the-laws, (uint-tells w64, (shr-slice-tells (named 0) (κs .0) u8, (mut-slice-tells (named 1) (κs .1 .0) u8, (mut-tells (named 2) (κs .1 .1 .0) (Array u8 memorySize), (array-tells R event-vals (LL.tells MEvent.the-type MEvent′.the-laws) leastCapacity, tt)))))))
       (λ κs qs bounds a g are. via 𝓤 _ (fst∗ 𝓤 _ (emp 𝓤))
       (walk 𝓤 H A W mem run (κs .0) (κs .1 .0) (κs .1 .1 .0) (qs .0) (qs .1 .0) (qs .1 .1 .0) (a .0) (a .1 .0) (a .1 .1 .0) (a .1 .1 .1 .0) (a .1 .1 .1 .1 .0) (a .1 .1 .1 .1 .1 .0) (are .0) (are .1 .0 .1) (are .1 .1 .0) (are .1 .1 .1 .0) (are .1 .1 .1 .1 .0) (are .1 .1 .1 .1 .1 .0) C Λ fm known))
 
 packet-least-meets : {M : Type 1} (𝓤 : URA M) (H : Heap 𝓤) (A : Atoms 𝓤) → Given 𝓤 H A → (mem : Memory → SProp 𝓤) (run : Routine → Fun 𝓤) (𝓣 : Tables 𝓤 H)
     → Triple 𝓤 (𝓣 .C #call) (Call 𝓤 H A mem run) → Meets 𝓤 H A f.signature (WpFn 𝓤 H (𝓣 .C) (𝓣 .Λ) code.function) (f.spec 𝓤 H A mem run)
 packet-least-meets 𝓤 H A W mem run 𝓣 known =
-    walk-meets 𝓤 H A f.ended stayed W (goes-dropped 𝓤 H A W 3 (plain (λ _. MState.the-row)) yes (λ κs x f. refl), (goes-dropped 𝓤 H A W 3 (plain (λ _. u64)) yes (λ κs x f. refl), (goes-dropped 𝓤 H A W 3 (shrSliceOf (0 ∷ []) tt (plain (λ _. u8))) yes (λ κs x f. refl), (goes-gave-slice 𝓤 H A W 3 1 tt (plain (λ _. u8)), (goes-gave-ref 𝓤 H A W 3 2 tt (arrayOf (plain (λ _. u8)) memorySize), (goes-dropped 𝓤 H A W 3 (arrayOf (plain (λ _. R)) leastRoom) yes (λ κs x f. refl), tt)))))) (f.clauses 𝓤 H A mem run)
+    walk-meets 𝓤 H A f.ended stayed W (goes-dropped 𝓤 H A W 3 (plain (λ _. MState.the-row)) yes (λ κs x f. refl), (goes-dropped 𝓤 H A W 3 (plain (λ _. u64)) yes (λ κs x f. refl), (goes-dropped 𝓤 H A W 3 (shrSliceOf (0 ∷ []) tt (plain (λ _. u8))) yes (λ κs x f. refl), (goes-gave-slice 𝓤 H A W 3 1 tt (plain (λ _. u8)), (goes-gave-ref 𝓤 H A W 3 2 tt (arrayOf (plain (λ _. u8)) memorySize), (goes-dropped 𝓤 H A W 3 (arrayOf (plain (λ _. R)) leastCapacity) yes (λ κs x f. refl), tt)))))) (f.clauses 𝓤 H A mem run)
     (WpFn 𝓤 H (𝓣 .C) (𝓣 .Λ) code.function) (WpFn-mono 𝓤 H (W .laws) 𝓣 code.function) (packet-least-walks 𝓤 H A W mem run (𝓣 .C) (𝓣 .Λ) (fmOf 𝓤 H (W .laws) 𝓣) known)
 
 pub packet-least-spec : {M : Type 1} → stated.statement M

@@ -1,6 +1,6 @@
 -- `checks::sizes_refusal` meets its contract. Assumes nothing.
 use borrow.Author.Tests.{lt-ltb, le-ltb, lt-leb, le-leb, eq-eqb, ne-eqb}
-use Rattle.checks.specs.Ladders.{sizesRefusal}
+use Rattle.checks.specs.inner.Ladders.{sizesRefusal}
 use Rattle.checks.proofs.sizes_refusal.Statement.{statement}
 use Rattle.checks.proofs.sizes_refusal.Tie as tie
 

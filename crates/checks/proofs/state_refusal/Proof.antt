@@ -3,7 +3,7 @@ use borrow.Author.Needs.{needs}
 use mathlib.Core.Path.{sym, _∙_}
 use borrow.Author.Tests.{lt-ltb, le-ltb, not-true, not-false}
 use Rattle.arrays.specs.Lent.{stateIn}
-use Rattle.checks.specs.Ladders.{stateRefusal}
+use Rattle.checks.specs.inner.Ladders.{stateRefusal}
 use Rattle.checks.proofs.state_refusal.Statement.{statement}
 use Rattle.checks.proofs.state_refusal.Tie as tie
 

@@ -27,7 +27,7 @@ returns : tie.Need-returns
 returns c =
     let args = c .before .before .before .before .before .before .before .before .before .before .before .before .before .args in
     let laid = rw (c .before .before .before .before .before .before .before .before .before .before .lay-times .ensures, c .before .before .before .before .before .before .before .lay-words .ensures) at (c .before .before .clock-in .ensures) in
-    clock-refused-at (args .state) (args .time) (now (args .memory)) (args .room) (now (args .numbers)) (c .before .before .before .before .before .before .before .before .before .before .before .before .typed .ensures .1) laid (c .if1 .taken)
+    clock-refused-at (args .state) (args .time) (now (args .memory)) (args .capacity) (now (args .numbers)) (c .before .before .before .before .before .before .before .before .before .before .before .before .typed .ensures .1) laid (c .if1 .taken)
 
 state-in-requires : tie.Need-state-in-requires
 state-in-requires c κs = search needs
@@ -36,7 +36,7 @@ returns-2 : tie.Need-returns-2
 returns-2 c =
     let args = c .before .before .before .before .before .before .before .before .before .before .before .before .before .before .before .before .args in
     let laid = rw (c .before .before .before .before .before .before .before .before .before .before .before .before .before .lay-times .ensures, c .before .before .before .before .before .before .before .before .before .before .lay-words .ensures) at (c .before .before .before .before .before .clock-in .ensures) in
-    let end = clock-accepted-at (args .state) (args .time) (now (args .memory)) (args .room) (now (args .numbers)) (c .before .before .before .before .before .before .before .before .before .before .before .before .before .before .before .typed .ensures .1) laid (c .before .before .before .if1 .left) in
+    let end = clock-accepted-at (args .state) (args .time) (now (args .memory)) (args .capacity) (now (args .numbers)) (c .before .before .before .before .before .before .before .before .before .before .before .before .before .before .before .typed .ensures .1) laid (c .before .before .before .if1 .left) in
     rw (c .state-in .ensures) end
 
 pub clock-at-spec : {M : Type 1} → statement M

@@ -10,7 +10,7 @@ use Rattle.header.specs.declared.Header.{Header}
 use Rattle.header.specs.Header.{pidOf, headerOf}
 use Rattle.checks.proofs.Ladders.{sizes-right, sizes-given}
 use Rattle.engine.proofs.Values.{packet-refused-at, packet-quiet-at, loud-refused, loud-accepted}
-use Rattle.quiet.specs.Quiet.{quietCall, quietByte}
+use Rattle.quiet.specs.inner.Quiet.{quietCall, quietByte}
 use Rattle.quiet.proofs.Turns.{told-quiet}
 use Rattle.engine.proofs.packet_at.Statement.{statement}
 use Rattle.engine.proofs.packet_at.Tie as tie
@@ -32,8 +32,8 @@ returns c =
     let start = c .before .before .before .before .before .before .before .before in
     let args = start .args in
     let given = c .before .sizes-refusal in
-    let number = given .ensures ∙ sym (sizes-given (args .state) (args .time) (now (args .packet)) (now (args .counters)) (now (args .memory)) (args .room) (λ z. c .if1 .taken (given .ensures ∙ z))) in
-    packet-refused-at (args .state) (args .time) (now (args .packet)) (now (args .counters)) (now (args .memory)) (args .room) (now (args .numbers)) (given .result) number (c .if1 .taken)
+    let number = given .ensures ∙ sym (sizes-given (args .state) (args .time) (now (args .packet)) (now (args .counters)) (now (args .memory)) (args .capacity) (λ z. c .if1 .taken (given .ensures ∙ z))) in
+    packet-refused-at (args .state) (args .time) (now (args .packet)) (now (args .counters)) (now (args .memory)) (args .capacity) (now (args .numbers)) (given .result) number (c .if1 .taken)
 
 read-requires : tie.Need-read-requires
 read-requires c κs =
@@ -41,7 +41,7 @@ read-requires c κs =
     let args = start .args in
     let packet = now (args .packet) in
     let counters = now (args .counters) in
-    let right = sizes-right (args .time) packet counters (args .room) (sym (c .before .sizes-refusal .ensures) ∙ c .if1 .left) in
+    let right = sizes-right (args .time) packet counters (args .capacity) (sym (c .before .sizes-refusal .ensures) ∙ c .if1 .left) in
     right .packet
 
 cast-pid : tie.Need-cast-pid
@@ -53,7 +53,7 @@ slice-read-byte c =
     let args = start .args in
     let packet = now (args .packet) in
     let counters = now (args .counters) in
-    let right = sizes-right (args .time) packet counters (args .room) (sym (c .before .before .before .before .sizes-refusal .ensures) ∙ c .before .before .before .if1 .left) in
+    let right = sizes-right (args .time) packet counters (args .capacity) (sym (c .before .before .before .before .sizes-refusal .ensures) ∙ c .before .before .before .if1 .left) in
     omega (arith, c .before .before .read .ensures .1, right .table)
 
 quiet-value-requires : tie.Need-quiet-value-requires
@@ -62,7 +62,7 @@ quiet-value-requires c κs =
     let args = start .args in
     let packet = now (args .packet) in
     let counters = now (args .counters) in
-    let right = sizes-right (args .time) packet counters (args .room) (sym (c .before .before .before .before .before .before .sizes-refusal .ensures) ∙ c .before .before .before .before .before .if1 .left) in
+    let right = sizes-right (args .time) packet counters (args .capacity) (sym (c .before .before .before .before .before .before .sizes-refusal .ensures) ∙ c .before .before .before .before .before .if1 .left) in
     (c .before .before .before .before .before .before .before .before .typed .ensures .1, c .before .before .before .before .before .before .before .before .before .memory-size .ensures .1, right .packet, c .before .before .before .before .read .ensures .0)
 
 slice-write-counters : tie.Need-slice-write-counters
@@ -71,7 +71,7 @@ slice-write-counters c =
     let args = start .args in
     let packet = now (args .packet) in
     let counters = now (args .counters) in
-    let right = sizes-right (args .time) packet counters (args .room) (sym (c .before .before .before .before .before .before .before .before .sizes-refusal .ensures) ∙ c .before .before .before .before .before .before .before .if1 .left) in
+    let right = sizes-right (args .time) packet counters (args .capacity) (sym (c .before .before .before .before .before .before .before .before .sizes-refusal .ensures) ∙ c .before .before .before .before .before .before .before .if1 .left) in
     omega (arith, c .before .before .before .before .before .before .read .ensures .1, right .table)
 
 same-length-2 : tie.Need-same-length-2
@@ -84,7 +84,7 @@ returns-2 c =
     let args = start .args in
     let packet = now (args .packet) in
     let counters = now (args .counters) in
-    let right = sizes-right (args .time) packet counters (args .room) (sym (c .before .before .before .before .before .before .before .before .before .sizes-refusal .ensures) ∙ c .before .before .before .before .before .before .before .before .if1 .left) in
+    let right = sizes-right (args .time) packet counters (args .capacity) (sym (c .before .before .before .before .before .before .before .before .before .sizes-refusal .ensures) ∙ c .before .before .before .before .before .before .before .before .if1 .left) in
     let read = c .before .before .before .before .before .before .before .read in
     let pid : read .result .pid ≡ pidOf packet = ap (λ (h : Header). h .pid) (read .ensures .0) in
     let byte : getD counters (read .result .pid) 0 ≡ getD counters (pidOf packet) 0 = ap (λ (k : ℕ). getD counters k 0) pid in
@@ -93,7 +93,7 @@ returns-2 c =
     let told = told-quiet packet given (call given) (c .before .before .quiet-value .ensures) (c .before .if2 .taken) in
     let quiet = ap call (sym byte) ∙ told .0 in
     let counted = ap₂ (λ (k b : ℕ). set counters k b) pid (told .1 ∙ ap (quietByte packet) byte) in
-    packet-quiet-at (args .state) (args .time) packet counters (now (args .memory)) (args .room) (now (args .numbers)) right (c .before .before .before .before .before .before .before .before .before .before .before .typed .ensures .1) _ quiet counted
+    packet-quiet-at (args .state) (args .time) packet counters (now (args .memory)) (args .capacity) (now (args .numbers)) right (c .before .before .before .before .before .before .before .before .before .before .before .typed .ensures .1) _ quiet counted
 
 slice-aggregate-lay-times : tie.Need-slice-aggregate-lay-times
 slice-aggregate-lay-times c = search needs
@@ -114,7 +114,7 @@ loud-packet-requires c κs =
     let args = start .args in
     let packet = now (args .packet) in
     let counters = now (args .counters) in
-    let right = sizes-right (args .time) packet counters (args .room) (sym (c .before .before .before .before .before .before .before .before .before .before .before .before .before .before .before .before .before .before .before .sizes-refusal .ensures) ∙ c .before .before .before .before .before .before .before .before .before .before .before .before .before .before .before .before .before .before .if1 .left) in
+    let right = sizes-right (args .time) packet counters (args .capacity) (sym (c .before .before .before .before .before .before .before .before .before .before .before .before .before .before .before .before .before .before .before .sizes-refusal .ensures) ∙ c .before .before .before .before .before .before .before .before .before .before .before .before .before .before .before .before .before .before .if1 .left) in
     let read = c .before .before .before .before .before .before .before .before .before .before .before .before .before .before .before .before .before .read in
     let pid : read .result .pid ≡ pidOf packet = ap (λ (h : Header). h .pid) (read .ensures .0) in
     let byte : getD counters (read .result .pid) 0 ≡ getD counters (pidOf packet) 0 = ap (λ (k : ℕ). getD counters k 0) pid in
@@ -127,7 +127,7 @@ returns-3 : tie.Need-returns-3
 returns-3 c =
     let args = c .before .before .before .before .before .before .before .before .before .before .before .before .before .before .before .before .before .before .before .before .before .before .before .before .before .before .before .before .before .before .before .args in
     let laid = rw (c .before .before .before .before .before .before .before .before .before .before .before .before .before .before .lay-times .ensures, c .before .before .before .before .before .before .before .before .before .before .before .lay-words .ensures) at (c .before .before .before .before .loud-packet .ensures) in
-    loud-refused (args .state) (args .time) (now (args .packet)) (now (args .counters)) (now (args .memory)) (args .room) (now (args .numbers)) (c .before .before .before .before .before .before .before .before .before .before .before .before .before .before .before .before .before .before .before .before .before .before .before .before .before .before .typed .ensures .1) laid (c .if3 .taken)
+    loud-refused (args .state) (args .time) (now (args .packet)) (now (args .counters)) (now (args .memory)) (args .capacity) (now (args .numbers)) (c .before .before .before .before .before .before .before .before .before .before .before .before .before .before .before .before .before .before .before .before .before .before .before .before .before .before .typed .ensures .1) laid (c .if3 .taken)
 
 state-in-requires : tie.Need-state-in-requires
 state-in-requires c κs = search needs
@@ -139,7 +139,7 @@ returns-4 : tie.Need-returns-4
 returns-4 c =
     let args = c .before .before .before .before .before .before .before .before .before .before .before .before .before .before .before .before .before .before .before .before .before .before .before .before .before .before .before .before .before .before .before .before .before .before .args in
     let laid = rw (c .before .before .before .before .before .before .before .before .before .before .before .before .before .before .before .before .before .lay-times .ensures, c .before .before .before .before .before .before .before .before .before .before .before .before .before .before .lay-words .ensures) at (c .before .before .before .before .before .before .before .loud-packet .ensures) in
-    let end = loud-accepted (args .state) (args .time) (now (args .packet)) (now (args .counters)) (now (args .memory)) (args .room) (now (args .numbers)) (c .before .before .before .before .before .before .before .before .before .before .before .before .before .before .before .before .before .before .before .before .before .before .before .before .before .before .before .before .before .typed .ensures .1) laid (c .before .before .before .if3 .left) in
+    let end = loud-accepted (args .state) (args .time) (now (args .packet)) (now (args .counters)) (now (args .memory)) (args .capacity) (now (args .numbers)) (c .before .before .before .before .before .before .before .before .before .before .before .before .before .before .before .before .before .before .before .before .before .before .before .before .before .before .before .before .before .typed .ensures .1) laid (c .before .before .before .if3 .left) in
     rw (c .state-in .ensures) end
 
 pub packet-at-spec : {M : Type 1} → statement M

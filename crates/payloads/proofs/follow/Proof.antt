@@ -8,12 +8,13 @@ use mathlib.Core.List.{List}
 use Prim.Native.Nat.{ℕ, _+_, _-_, _*_, _≤_}
 use lib.ListN.{length, drop, length-drop}
 use Rattle.lists.proofs.Turns.{rest-all}
-use Rattle.sections.specs.Building.{fed}
+use Rattle.sections.specs.Building.{following, fed, begunJob}
 use Rattle.sections.proofs.Jobs.{empty-more}
 use Rattle.calls.specs.Steps.{Absorbed}
-use Rattle.arrays.specs.Lent.{coreIn, Moved}
-use Rattle.payloads.specs.Taking.{held}
-use Rattle.payloads.specs.Parts.{cameTo, newSections, Fit}
+use Rattle.arrays.specs.Lent.{coreIn}
+use Rattle.arrays.specs.inner.Kept.{Moved}
+use Rattle.payloads.specs.inner.Taking.{held}
+use Rattle.payloads.specs.inner.Parts.{cameTo, Fit}
 use Rattle.payloads.proofs.Sections.{NewSection, Reached, reached-begins, stuffing-ends, bytes-end, section-fit, section-inside, section-three, section-leaves, section-waits, section-follows, section-stops}
 use Rattle.arrays.proofs.Kept.{moved-none, moved-sized, moved-then}
 use Rattle.payloads.proofs.follow.Statement.{statement}
@@ -26,11 +27,11 @@ record Going (t r pid : ℕ) (a : Absorbed) (n₀ : ℕ) (list₀ s times₀ wor
   fit : Fit (coreIn times words) m list
   few : 3 * n ≤ 3 * n₀ + at
   same : length list ≡ length list₀
-  reached : Reached t r pid a n₀ list₀ (newSections m) (drop at s) (coreIn times words) n list
+  reached : Reached t r pid a n₀ list₀ (begunJob m 0) (drop at s) (coreIn times words) n list
 
 abbrev Inv-loop : tie.InvT-loop
 Inv-loop times₀ words₀ memory₀ room pid s time numbers₀ n0 n₀ at₀ times words memory numbers n at =
-    Going time room pid (cameTo time room pid (fed room (newSections memory₀) s) (held (coreIn times₀ words₀) memory₀)) n0 numbers₀ s times₀ words₀ times words memory numbers n at
+    Going time room pid (cameTo time room pid (fed following room (begunJob memory₀ 0) s) (held (coreIn times₀ words₀) memory₀)) n0 numbers₀ s times₀ words₀ times words memory numbers n at
 
 abbrev μ-loop : tie.MeasureT-loop
 μ-loop times₀ words₀ memory₀ room pid s time numbers₀ n0 n₀ at₀ times words memory numbers n at = length s - at

@@ -8,11 +8,11 @@ use lib.ListN.{length, take, drop, length-take, length-drop}
 use borrow.Author.Tests.{not-true, not-false}
 use Rattle.lists.proofs.Places.{part-length}
 use Rattle.lists.proofs.Turns.{rest-all}
-use Rattle.sections.specs.Building.{stopped, emptied, begunJob}
+use Rattle.sections.specs.Building.{dropped, begunJob}
 use Rattle.sections.specs.Rooms.{roomCount}
 use Rattle.programmes.specs.Places.{halfAt}
 use Rattle.arrays.specs.Lent.{coreIn, halvesAt}
-use Rattle.payloads.specs.Parts.{left, went}
+use Rattle.payloads.specs.inner.Parts.{left, went}
 use Rattle.payloads.proofs.Payloads.{shown-as, shown-idle, Resuming, gone-fit, no-start, rest-ignored, rest-follows, taken-no-start, taken-far, taken-near}
 use Rattle.payloads.proofs.Soundness.{takable-more, takable-fit}
 use Rattle.arrays.proofs.Kept.{latest-same, latest-then, sync-then, moved-sized}
@@ -87,7 +87,7 @@ returns-2 c =
     let more = takable-more (start .pre .1) in
     let byte = c .before .before .before .before .before .byte-at in
     let set-half = c .before .before .set-half2 .ensures in
-    let j = emptied stopped (begunJob (now (args .memory)) (halfAt (core .half) (args .room))) in
+    let j = dropped (begunJob (now (args .memory)) (halfAt (core .half) (args .room))) in
     let e = taken-far (args .time) (args .room) (args .pid) (args .start) (now (args .payload)) core (now (args .memory)) (not-false _ (c .before .before .before .before .before .before .if1 .left)) (byte .result) (byte .ensures .0) (c .before .before .before .before .if2 .taken) in
     (rw e (shown-idle (args .time) (args .room) (args .pid) j core (args .n) 0 (now (args .numbers)) _ refl refl (ap (λ k. left k (args .n)) (set-half .0 _))), (record { times = latest-same (start .pre .0 .long); words = set-half .1 }, omega arith))
 

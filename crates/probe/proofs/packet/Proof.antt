@@ -50,13 +50,13 @@ use denote.Exit.{yes}
 use denote.Signature.{plain, shrSliceOf}
 use denote.Signature.Array.{arrayOf}
 use Rattle.events.specs.Events.{eventsLaid}
-use Rattle.events.specs.Room.{recordWidth, numberRoom, mostEvents}
+use Rattle.events.specs.Capacity.{recordWidth, numberCapacity, mostEvents}
 use Rattle.sections.specs.Rooms.{memorySize}
 use Rattle.calls.specs.Calls.{packetCall, answerOf}
-use Rattle.engine.specs.Numbers.{AllFit, Numbered}
-use Rattle.records.specs.Handing.{handed}
+use Rattle.engine.specs.inner.Numbers.{AllFit, Numbered}
+use Rattle.records.specs.inner.Handing.{handed}
 use Rattle.records.proofs.ReadBack.{blank, few-enough, handed-eventsLaid}
-use Rattle.records.proofs.Rooms.{packetCall-room}
+use Rattle.records.proofs.Rooms.{packetCall-capacity}
 use Rattle.events.specs.declared.Event.{Event}
 use Rattle.calls.specs.declared.Answer.{Answer}
 use Rattle.calls.specs.declared.State.{State}
@@ -90,7 +90,7 @@ abbrev stayed : Stays (f.ended .signature .params) (f.ended .kept)
 stayed = (stay-dropped (plain (λ _. MState.the-row)) yes, (stay-dropped (plain (λ _. u64)) yes, (stay-dropped (shrSliceOf (0 ∷ []) tt (plain (λ _. u8))) yes, (gave-slice (1 ∷ []) tt (plain (λ _. u8)), (gave-ref (2 ∷ []) tt (arrayOf (plain (λ _. u8)) memorySize), (gave-slice (3 ∷ []) tt (plain (λ _. R)), tt))))))
 
 abbrev zeros : Val
-zeros = arrayVal (replicate numberRoom (vint w64 0))
+zeros = arrayVal (replicate numberCapacity (vint w64 0))
 
 module _ {M : Type 1} (𝓤 : URA M) (H : Heap 𝓤) (A : Atoms 𝓤) (mem : Memory → SProp 𝓤) (run : Routine → Fun 𝓤) where
   abbrev Core : Contract 𝓤
@@ -138,7 +138,7 @@ module _ {M : Type 1} (𝓤 : URA M) (H : Heap 𝓤) (A : Atoms 𝓤) (W : Given
   abbrev nx : ℕ → GName → List ℕ → RefT (List ℕ)
   nx p δ l = record { ptr = (p, 0); name = δ; now = l }
 
-  room-of : (l : List ℕ) → length l ≡ numberRoom → Room u64 (length l)
+  room-of : (l : List ℕ) → length l ≡ numberCapacity → Room u64 (length l)
   room-of l e = subst (Room u64) (sym e) (lit< tt, lit< tt)
 
   -- ---- the call of the core
@@ -151,9 +151,9 @@ module _ {M : Type 1} (𝓤 : URA M) (H : Heap 𝓤) (A : Atoms 𝓤) (W : Given
   abbrev to-core : ℕ → ℕ → GName → Core 𝓤 H A mem run .Ghost
   to-core p ν δ = (((κ₀, (κ₁, (κ₂, (ν ∷ [], tt)))), (q₀, (q₁, (q₂, (fullShare, tt)))), tt, core-args p δ, ((LL.val MState.the-type MState′.the-laws (state)) ∷ [], ((vint w64 time) ∷ [], ((sliceVal (packet .ptr) (length (packet .now))) ∷ [], ((sliceVal (counters .ptr) (length (counters .now))) ∷ [], ((vptr (memory .ptr .0) (memory .ptr .1)) ∷ [], (vint w64 (length ys) ∷ [], (vptr p 0 ∷ [], tt)))))))), tt)
 
-  goes-core : (p ν : ℕ) (δ : GName) → ent 𝓤 (⋆ 𝓤 H A ((‵ (flft κ₀ q₀) ⊛ ‵ (flft κ₁ q₁) ⊛ ‵ (flft κ₂ q₂) ⊛ ‵ (flft (ν ∷ []) fullShare) ⊛ ‵ ftrue) ∷ ‵ (MutRef (named 3) (ν ∷ []) (Array u64 numberRoom) .own (nx p δ blank) (vptr p 0 ∷ [])) ∷ ‵ (ShrSlice (named 0) κ₀ u8 .own packet ((sliceVal (packet .ptr) (length (packet .now))) ∷ [])) ∷ ‵ (MutSlice (named 1) κ₁ u8 .own counters ((sliceVal (counters .ptr) (length (counters .now))) ∷ [])) ∷ ‵ (MutRef (named 2) κ₂ (Array u8 memorySize) .own memory ((vptr (memory .ptr .0) (memory .ptr .1)) ∷ [])) ∷ [])) (Core 𝓤 H A mem run .pre (to-core p ν δ))
+  goes-core : (p ν : ℕ) (δ : GName) → ent 𝓤 (⋆ 𝓤 H A ((‵ (flft κ₀ q₀) ⊛ ‵ (flft κ₁ q₁) ⊛ ‵ (flft κ₂ q₂) ⊛ ‵ (flft (ν ∷ []) fullShare) ⊛ ‵ ftrue) ∷ ‵ (MutRef (named 3) (ν ∷ []) (Array u64 numberCapacity) .own (nx p δ blank) (vptr p 0 ∷ [])) ∷ ‵ (ShrSlice (named 0) κ₀ u8 .own packet ((sliceVal (packet .ptr) (length (packet .now))) ∷ [])) ∷ ‵ (MutSlice (named 1) κ₁ u8 .own counters ((sliceVal (counters .ptr) (length (counters .now))) ∷ [])) ∷ ‵ (MutRef (named 2) κ₂ (Array u8 memorySize) .own memory ((vptr (memory .ptr .0) (memory .ptr .1)) ∷ [])) ∷ [])) (Core 𝓤 H A mem run .pre (to-core p ν δ))
   goes-core p ν δ =
-      qed W ((‵ (flft κ₀ q₀) ⊛ ‵ (flft κ₁ q₁) ⊛ ‵ (flft κ₂ q₂) ⊛ ‵ (flft (ν ∷ []) fullShare) ⊛ ‵ ftrue) ∷ ‵ (MutRef (named 3) (ν ∷ []) (Array u64 numberRoom) .own (nx p δ blank) (vptr p 0 ∷ [])) ∷ ‵ (ShrSlice (named 0) κ₀ u8 .own packet ((sliceVal (packet .ptr) (length (packet .now))) ∷ [])) ∷ ‵ (MutSlice (named 1) κ₁ u8 .own counters ((sliceVal (counters .ptr) (length (counters .now))) ∷ [])) ∷ ‵ (MutRef (named 2) κ₂ (Array u8 memorySize) .own memory ((vptr (memory .ptr .0) (memory .ptr .1)) ∷ [])) ∷ []) ∵
+      qed W ((‵ (flft κ₀ q₀) ⊛ ‵ (flft κ₁ q₁) ⊛ ‵ (flft κ₂ q₂) ⊛ ‵ (flft (ν ∷ []) fullShare) ⊛ ‵ ftrue) ∷ ‵ (MutRef (named 3) (ν ∷ []) (Array u64 numberCapacity) .own (nx p δ blank) (vptr p 0 ∷ [])) ∷ ‵ (ShrSlice (named 0) κ₀ u8 .own packet ((sliceVal (packet .ptr) (length (packet .now))) ∷ [])) ∷ ‵ (MutSlice (named 1) κ₁ u8 .own counters ((sliceVal (counters .ptr) (length (counters .now))) ∷ [])) ∷ ‵ (MutRef (named 2) κ₂ (Array u8 memorySize) .own memory ((vptr (memory .ptr .0) (memory .ptr .1)) ∷ [])) ∷ []) ∵
       nothing ! $ move ! (2 ∷ 0 ∷ []) $ fjoin ! $ owned ! usize (Is usize) (uint-makes 𝓤 H A W w64) (length ys) _ (refl, fitting .0) $ fjoin ! $ move ! (4 ∷ 0 ∷ []) $ fjoin ! $ move ! (3 ∷ 0 ∷ []) $ fjoin ! $ move ! (2 ∷ 0 ∷ []) $ fjoin ! $ owned ! u64 (Is u64) (uint-makes 𝓤 H A W w64) time _ (refl, time-fits) $ fjoin ! $ owned ! MState.the-row (Is MState.the-row) (LL.makes MState.the-type MState′.the-plain 𝓤 H A) state _ state-is $ fjoin ! $ move ! (1 ∷ 0 ∷ []) $ join ! $ frame ! $ done !
 
   -- ---- the call of `hand_over`, at the answer r
@@ -166,12 +166,12 @@ module _ {M : Type 1} (𝓤 : URA M) (H : Heap 𝓤) (A : Atoms 𝓤) (W : Given
   abbrev to-hand : ℕ → ℕ → GName → Answer → Hand 𝓤 H A mem run .Ghost
   to-hand p ν δ r = (((ν ∷ [], (κ₃, tt)), (fullShare, (q₃, tt)), tt, hand-args p δ r, (sliceVal (p, 0) (length nums) ∷ [], (vint w64 (r .n) ∷ [], (s ∷ [], tt)))), tt)
 
-  goes-hand : (p ν : ℕ) (δ : GName) (r : Answer) → r ≡ out → r .n < 2 ^ 64 → length nums ≡ numberRoom → length laid-events ≤ mostEvents
+  goes-hand : (p ν : ℕ) (δ : GName) (r : Answer) → r ≡ out → r .n < 2 ^ 64 → length nums ≡ numberCapacity → length laid-events ≤ mostEvents
       → ent 𝓤 (sep 𝓤 (sep 𝓤 (A .lft (ν ∷ []) fullShare) (sep 𝓤 (A .lft κ₃ q₃) (sem 𝓤 H A ftrue))) (sep 𝓤 (sem 𝓤 H A (ShrSlice (named 0) (ν ∷ []) u64 .own (nx p δ nums) (sliceVal (p, 0) (length nums) ∷ []))) (sem 𝓤 H A (MutSlice (named 3) κ₃ R .own yv (s ∷ [])))))
       (Hand 𝓤 H A mem run .pre (to-hand p ν δ r))
   goes-hand p ν δ r e fits long few =
       qed W ((‵ (flft (ν ∷ []) fullShare) ⊛ ‵ (flft κ₃ q₃) ⊛ ‵ ftrue) ∷ ‵ (ShrSlice (named 0) (ν ∷ []) u64 .own (nx p δ nums) (sliceVal (p, 0) (length nums) ∷ [])) ∷ ‵ (MutSlice (named 3) κ₃ R .own yv (s ∷ [])) ∷ []) ∵
-      says ! (subst (λ (d : Answer). d .n ≤ length ys) (sym e) (packetCall-room state time (packet .now) (counters .now) (memory .now) (length ys) few), subst (λ (m : ℕ). r .n * recordWidth ≤ m) (sym long) (subst (λ (d : Answer). d .n * recordWidth ≤ numberRoom) (sym e) (few-enough (length laid-events) few))) $ frame ! $
+      says ! (subst (λ (d : Answer). d .n ≤ length ys) (sym e) (packetCall-capacity state time (packet .now) (counters .now) (memory .now) (length ys) few), subst (λ (m : ℕ). r .n * recordWidth ≤ m) (sym long) (subst (λ (d : Answer). d .n * recordWidth ≤ numberCapacity) (sym e) (few-enough (length laid-events) few))) $ frame ! $
       nothing ! $ move ! (2 ∷ 0 ∷ []) $ fjoin ! $ owned ! usize (Is usize) (uint-makes 𝓤 H A W w64) (r .n) _ (refl, fits) $ fjoin ! $ move ! (1 ∷ 0 ∷ []) $ fjoin ! $ done !
 
   exits : (r : Answer) (z-counters : List ℕ) (z-memory : List ℕ) (zs : List Event) → Is O r ((LL.val MAnswer.the-type MAnswer′.the-laws (r)) ∷ []) → r ≡ out → z-counters ≡ counters-after → z-memory ≡ memory-after → zs ≡ handed nums (r .n) ys → AllFit laid-events → length laid-events ≤ mostEvents → length z-counters ≡ length (counters .now) → length zs ≡ length ys → ent 𝓤 (⋆ 𝓤 H A ((‵ (flft κ₀ q₀) ⊛ ‵ (flft κ₁ q₁) ⊛ ‵ (flft κ₂ q₂) ⊛ ‵ (flft κ₃ q₃) ⊛ ‵ ftrue) ∷ ‵ (finally u8 (counters .name) z-counters) ∷ ‵ (fres (memory .name) ((Array u8 memorySize) .coded .code z-memory)) ∷ ‵ (finally R γ zs) ∷ [])) (Post (LL.val MAnswer.the-type MAnswer′.the-laws (r)))
@@ -181,9 +181,9 @@ module _ {M : Type 1} (𝓤 : URA M) (H : Heap 𝓤) (A : Atoms 𝓤) (W : Given
       nothing ! $ move ! (3 ∷ 0 ∷ []) $ fjoin ! $ move ! (2 ∷ 0 ∷ []) $ fjoin ! $ move ! (1 ∷ 0 ∷ []) $ fjoin ! $ nothing ! $ fjoin ! $ nothing ! $ fjoin ! $ nothing ! $ fjoin ! $ frame ! $ owned ! O (Is O) (LL.makes MAnswer.the-type MAnswer′.the-plain 𝓤 H A) r _ is $ done !
 
   -- the array as it is made owns its elements
-  all-zero : ent 𝓤 (sem 𝓤 H A (u64 .own 0 (vint w64 0 ∷ []))) (sem 𝓤 H A (Array u64 numberRoom .own blank (zeros ∷ [])))
+  all-zero : ent 𝓤 (sem 𝓤 H A (u64 .own 0 (vint w64 0 ∷ []))) (sem 𝓤 H A (Array u64 numberCapacity .own blank (zeros ∷ [])))
   unfolding blank
-  all-zero = array-repeat 𝓤 H A W u64 (uint-copy 𝓤 H A W w64) numberRoom 0 (vint w64 0)
+  all-zero = array-repeat 𝓤 H A W u64 (uint-copy 𝓤 H A W w64) numberCapacity 0 (vint w64 0)
 
   abbrev word : Ty
   word = tyInt w64
@@ -196,10 +196,10 @@ module _ {M : Type 1} (𝓤 : URA M) (H : Heap 𝓤) (A : Atoms 𝓤) (W : Given
         pass1 ! (init ! 36 refl (LL.lawful MState.the-type MState′.the-laws 𝓤 H A W .typed state _ state-is .0)) $ pass1 ! (init ! 34 refl (tt, record { fits = time-fits })) $ pass1 ! (init ! 32 refl (shr-slice-lawful 𝓤 H A W (named 0) κ₀ u8 .typed packet _ packet-is .0)) $ pass1 ! (init ! 30 refl (tt, (tt, (record { fits = counters-is .0 .1 .0 }, tt)))) $ pass1 ! (init ! 28 refl (tt, tt)) $ pass1 ! (init ! 26 refl (tt, (tt, (record { fits = fitting .0 }, tt)))) $ pass0 ! $
         move ! (41 ∷ []) $ fsplit ! $ drop ! $ fsplit ! $ drop ! $ fsplit ! $ move ! (1 ∷ []) $ fsplit ! $ move ! (1 ∷ []) $ fsplit ! $ move ! (1 ∷ []) $ fsplit ! $ move ! (1 ∷ []) $ drop ! $ move ! (44 ∷ []) $ split ! $ move ! (1 ∷ []) $ split ! $ move ! (1 ∷ []) $ split ! $ move ! (1 ∷ []) $ split ! $ move ! (1 ∷ []) $ drop ! $
         -- the array is made, and is a row of numbers
-        owned ! u64 (Is u64) (uint-makes 𝓤 H A W w64) 0 (vint w64 0 ∷ []) (refl, lit< tt) $ use1 W (‵ (Array u64 numberRoom .own blank (zeros ∷ []))) all-zero $
-        peeks ! (Array u64 numberRoom) (Is (Array u64 numberRoom)) (shows 𝓤 H A (Array u64 numberRoom)) blank (zeros ∷ []) (λ zs-are.
-        assigns ! (rep ! numberRoom (lit ! tt)) (from ! (stop !)) (init ! 33 refl (array-lawful 𝓤 H A W u64 (uint-lawful 𝓤 H A W w64) numberRoom .typed blank _ zs-are .0)) $
-        move ! (33 ∷ 0 ∷ []) $ use2 W (‵ (partAt (Array u64 numberRoom) fullShare blank l₇ 0)) (part-in 𝓤 H A W (Array u64 numberRoom) refl fullShare blank l₇ 0 zeros) $
+        owned ! u64 (Is u64) (uint-makes 𝓤 H A W w64) 0 (vint w64 0 ∷ []) (refl, lit< tt) $ use1 W (‵ (Array u64 numberCapacity .own blank (zeros ∷ []))) all-zero $
+        peeks ! (Array u64 numberCapacity) (Is (Array u64 numberCapacity)) (shows 𝓤 H A (Array u64 numberCapacity)) blank (zeros ∷ []) (λ zs-are.
+        assigns ! (rep ! numberCapacity (lit ! tt)) (from ! (stop !)) (init ! 33 refl (array-lawful 𝓤 H A W u64 (uint-lawful 𝓤 H A W w64) numberCapacity .typed blank _ zs-are .0)) $
+        move ! (33 ∷ 0 ∷ []) $ use2 W (‵ (partAt (Array u64 numberCapacity) fullShare blank l₇ 0)) (part-in 𝓤 H A W (Array u64 numberCapacity) refl fullShare blank l₇ 0 zeros) $
         assigns ! (of-opd ! (load ! (from ! (fld ! refl (stop !))) (look-in ! 34 (sub ! 1 refl (whole !))))) (from ! (stop !)) (init ! 31 refl (tt, record { fits = fitting .0 })) $
         assigns ! (addr ! (from ! (fld ! refl (hop ! (look-in ! 38 (sub ! 0 refl (whole !))) (stop !))))) (from ! (stop !)) (init ! 25 refl (tt, tt)) $
         assigns ! (agg ! (and-then ! (load ! (from ! (stop !)) (look ! 25 refl)) (and-then ! (load ! (from ! (fld ! refl (stop !))) (look-in ! 38 (sub ! 1 refl (whole !)))) (no-more !)))) (from ! (stop !)) (init ! 23 refl (tt, (tt, (record { fits = counters-is .0 .1 .0 }, tt)))) $
@@ -207,7 +207,7 @@ module _ {M : Type 1} (𝓤 : URA M) (H : Heap 𝓤) (A : Atoms 𝓤) (W : Given
         assigns ! (addr ! (from ! (stop !))) (from ! (stop !)) (init ! 19 refl (tt, tt)) $
         -- the core: numbers are lent for a lifetime ν of the call
         lft-new ! tt (λ ν.
-        move ! (1 ∷ []) $ use1 W (later (some (λ (δ : GName). ‵ (MutRef (named 3) (ν ∷ []) (Array u64 numberRoom) .own (nx l₇ δ blank) (vptr l₇ 0 ∷ [])) ⊛ ‵ (flent (ν ∷ []) (Body (in-memory (Array u64 numberRoom)) l₇ 0 δ))))) (lends-ref 𝓤 H A W (Array u64 numberRoom) (named 3) (ν ∷ []) blank l₇ 0) $ await ! tt $ pick ! (λ δ. split ! $
+        move ! (1 ∷ []) $ use1 W (later (some (λ (δ : GName). ‵ (MutRef (named 3) (ν ∷ []) (Array u64 numberCapacity) .own (nx l₇ δ blank) (vptr l₇ 0 ∷ [])) ⊛ ‵ (flent (ν ∷ []) (Body (in-memory (Array u64 numberCapacity)) l₇ 0 δ))))) (lends-ref 𝓤 H A W (Array u64 numberCapacity) (named 3) (ν ∷ []) blank l₇ 0) $ await ! tt $ pick ! (λ δ. split ! $
         nothing ! $ move ! (3 ∷ 0 ∷ []) $ join ! $ move ! (4 ∷ 0 ∷ []) $ join ! $ move ! (4 ∷ 0 ∷ []) $ join ! $ move ! (4 ∷ 0 ∷ []) $ join ! $ move ! (0 ∷ 1 ∷ 7 ∷ 6 ∷ 5 ∷ []) $ group ! 5 $ use1 W (raw (Core 𝓤 H A mem run .pre (to-core l₇ ν δ))) (goes-core l₇ ν δ) $
         calls-at ! fm (Core 𝓤 H A mem run) known-core (to-core l₇ ν δ) (and-then ! (load ! (from ! (stop !)) (look ! 39 refl)) (and-then ! (load ! (from ! (stop !)) (look ! 37 refl)) (and-then ! (load ! (from ! (stop !)) (look ! 35 refl)) (and-then ! (load ! (from ! (stop !)) (look ! 18 refl)) (and-then ! (load ! (from ! (stop !)) (look ! 16 refl)) (and-then ! (load ! (from ! (stop !)) (look ! 26 refl)) (and-then ! (load ! (from ! (stop !)) (look ! 14 refl)) (no-more !)))))))) (λ w.
         use1 W (later (some (λ (r : Answer). ((‵ (flft κ₀ q₀) ⊛ ‵ (flft κ₁ q₁) ⊛ ‵ (flft κ₂ q₂) ⊛ ‵ (flft (ν ∷ []) fullShare) ⊛ ‵ ftrue) ⊛ ‵ (O .own r (w ∷ []))) ⊛ raw (ensured 𝓤 H A core.ended (core.clauses 𝓤 H A mem run) (κ₀, (κ₁, (κ₂, (ν ∷ [], tt)))) (core-args l₇ δ) tt r)))) (id⊢ 𝓤 _) $ await ! tt $ pick ! (λ r. split ! $ move ! (1 ∷ []) $
@@ -219,7 +219,7 @@ module _ {M : Type 1} (𝓤 : URA M) (H : Heap 𝓤) (A : Atoms 𝓤) (W : Given
         let known = subst (Is O r) told is in
         land ! (from ! (stop !)) (init ! 29 refl (LL.lawful MAnswer.the-type MAnswer′.the-laws 𝓤 H A W .typed r _ is .0)) $ rewrite ! 29 (λ (u : Val). ‵ (fat fullShare MAnswer′.mir l₉ 0 u)) (ap only told) refl $ drop ! $
         -- the tokens are told apart, the lifetime is ended, and the numbers come back
-        split ! $ move ! (1 ∷ []) $ split ! $ move ! (1 ∷ []) $ split ! $ move ! (1 ∷ []) $ split ! $ lft-end ! tt $ move ! (0 ∷ 9 ∷ 6 ∷ []) $ use3 W (later (‵ (partAt (Array u64 numberRoom) fullShare (zs .1 .1 .1 .1 .1 .1 .0) l₇ 0))) (ref-back 𝓤 H A W (Array u64 numberRoom) (ν ∷ []) δ (zs .1 .1 .1 .1 .1 .1 .0) l₇ 0) $ await ! tt $ use1 W (‵ (arr-parts (shares u64) numberRoom .part fullShare (zs .1 .1 .1 .1 .1 .1 .0) l₇ 0)) (array-apart 𝓤 H A W u64 fullShare tt numberRoom (zs .1 .1 .1 .1 .1 .1 .0) l₇ 0) $ fsplit ! $ feqL ! (λ counted. let long = subst (λ (z : List ℕ). length z ≡ numberRoom) (e .3 .laid) counted in rewrite ! 0 (λ (z : List ℕ). ‵ (row u64 fullShare z l₇ 0)) (e .3 .laid) refl $ move ! (5 ∷ 1 ∷ []) $ drop ! $ drop ! $
+        split ! $ move ! (1 ∷ []) $ split ! $ move ! (1 ∷ []) $ split ! $ move ! (1 ∷ []) $ split ! $ lft-end ! tt $ move ! (0 ∷ 9 ∷ 6 ∷ []) $ use3 W (later (‵ (partAt (Array u64 numberCapacity) fullShare (zs .1 .1 .1 .1 .1 .1 .0) l₇ 0))) (ref-back 𝓤 H A W (Array u64 numberCapacity) (ν ∷ []) δ (zs .1 .1 .1 .1 .1 .1 .0) l₇ 0) $ await ! tt $ use1 W (‵ (arr-parts (shares u64) numberCapacity .part fullShare (zs .1 .1 .1 .1 .1 .1 .0) l₇ 0)) (array-apart 𝓤 H A W u64 fullShare tt numberCapacity (zs .1 .1 .1 .1 .1 .1 .0) l₇ 0) $ fsplit ! $ feqL ! (λ counted. let long = subst (λ (z : List ℕ). length z ≡ numberCapacity) (e .3 .laid) counted in rewrite ! 0 (λ (z : List ℕ). ‵ (row u64 fullShare z l₇ 0)) (e .3 .laid) refl $ move ! (5 ∷ 1 ∷ []) $ drop ! $ drop ! $
         assigns ! (of-opd ! (load ! (from ! (fld ! refl (stop !))) (look-in ! 28 (sub ! 1 refl (whole !))))) (from ! (stop !)) (init ! 26 refl (tt, record { fits = owed .1 .0 .1 })) $
         assigns ! (addr ! (from ! (stop !))) (from ! (stop !)) (init ! 14 refl (tt, tt)) $
         assigns ! (agg ! (and-then ! (load ! (from ! (stop !)) (look ! 14 refl)) (and-then ! (lit ! tt) (no-more !)))) (from ! (stop !)) (init ! 12 refl (tt, (tt, (record { fits = lit< tt }, tt)))) $
@@ -228,16 +228,16 @@ module _ {M : Type 1} (𝓤 : URA M) (H : Heap 𝓤) (A : Atoms 𝓤) (W : Given
         assigns ! (agg ! (and-then ! (load ! (from ! (stop !)) (look ! 10 refl)) (and-then ! (load ! (from ! (fld ! refl (stop !))) (look-in ! 33 (sub ! 1 refl (whole !)))) (no-more !)))) (from ! (stop !)) (init ! 8 refl (tt, (tt, (record { fits = fitting .0 }, tt)))) $
         -- the list: numbers are lent as a `&`, and events go for good
         lft-new ! tt (λ ν′.
-        move ! (1 ∷ []) $ use1 W (later (some (λ (δ′ : GName). ‵ (ShrSlice (named 0) (ν′ ∷ []) u64 .own (nx l₇ δ′ nums) (sliceVal (l₇, 0) (length nums) ∷ [])) ⊛ ‵ (flent (ν′ ∷ []) (Kept 𝓤 H A W u64 tt numberRoom l₇ nums))))) (lend-shr 𝓤 H A W u64 tt numberRoom l₇ (named 0) (ν′ ∷ []) nums (room-of nums (long))) $ await ! tt $ pick ! (λ δ′. split ! $
+        move ! (1 ∷ []) $ use1 W (later (some (λ (δ′ : GName). ‵ (ShrSlice (named 0) (ν′ ∷ []) u64 .own (nx l₇ δ′ nums) (sliceVal (l₇, 0) (length nums) ∷ [])) ⊛ ‵ (flent (ν′ ∷ []) (Kept 𝓤 H A W u64 tt numberCapacity l₇ nums))))) (lend-shr 𝓤 H A W u64 tt numberCapacity l₇ (named 0) (ν′ ∷ []) nums (room-of nums (long))) $ await ! tt $ pick ! (λ δ′. split ! $
         nothing ! $ move ! (9 ∷ 0 ∷ []) $ join ! $ move ! (3 ∷ 0 ∷ []) $ join ! $ move ! (0 ∷ 1 ∷ 8 ∷ []) $ use3 W (raw (Hand 𝓤 H A mem run .pre (to-hand l₇ ν′ δ′ r))) (goes-hand l₇ ν′ δ′ r (e .0) (owed .1 .0 .1) (long) (e .3 .few)) $
         calls-at ! fm (Hand 𝓤 H A mem run) known-hand (to-hand l₇ ν′ δ′ r) (and-then ! (load ! (from ! (stop !)) (look ! 11 refl)) (and-then ! (load ! (from ! (stop !)) (look ! 25 refl)) (and-then ! (load ! (from ! (stop !)) (look ! 7 refl)) (no-more !)))) (λ w′.
         use1 W (later (some (λ (m : ℕ). ((‵ (flft (ν′ ∷ []) fullShare) ⊛ ‵ (flft κ₃ q₃) ⊛ ‵ ftrue) ⊛ ‵ (usize .own m (w′ ∷ []))) ⊛ raw (ensured 𝓤 H A hand.ended (hand.clauses 𝓤 H A mem run) (ν′ ∷ [], (κ₃, tt)) (hand-args l₇ δ′ r) tt m)))) (id⊢ 𝓤 _) $ await ! tt $ pick ! (λ m. split ! $ move ! (1 ∷ []) $
         use1 W (some (λ (zs′ : Unit {0} × (Unit {0} × (List Event × Unit {0}))). ‵ (lasts hand.ended (ν′ ∷ [], (κ₃, tt)) (hand-args l₇ δ′ r) zs′) ⊛ raw (fact 𝓤 ((m ≡ r .n) × (zs′ .1 .1 .0 ≡ handed nums (r .n) ys))))) (id⊢ 𝓤 _) $ pick ! (λ zs′.
         split ! $ move ! (1 ∷ []) $ heard ! ((m ≡ r .n) × (zs′ .1 .1 .0 ≡ handed nums (r .n) ys)) (λ e′. fsplit ! $ drop ! $ fsplit ! $ drop ! $ fsplit ! $ fsplit ! $ move ! (1 ∷ []) $ feqL ! (λ l′.
         move ! (2 ∷ []) $ split ! $ move ! (1 ∷ []) $ peeks ! usize (Is usize) (shows 𝓤 H A usize) m (w′ ∷ []) (λ is′.
-        land ! (from ! (stop !)) (init ! 18 refl (uint-lawful 𝓤 H A W w64 .typed m _ is′ .0)) $ drop ! $ split ! $ lft-end ! tt $ move ! (0 ∷ 4 ∷ []) $ use2 W (later (‵ (row u64 fullShare nums l₇ 0))) (back-shr 𝓤 H A W u64 tt numberRoom l₇ (ν′ ∷ []) nums) $ await ! tt $
+        land ! (from ! (stop !)) (init ! 18 refl (uint-lawful 𝓤 H A W w64 .typed m _ is′ .0)) $ drop ! $ split ! $ lft-end ! tt $ move ! (0 ∷ 4 ∷ []) $ use2 W (later (‵ (row u64 fullShare nums l₇ 0))) (back-shr 𝓤 H A W u64 tt numberCapacity l₇ (ν′ ∷ []) nums) $ await ! tt $
         assigns ! (of-opd ! (load ! (from ! (stop !)) (look ! 29 refl))) (from ! (stop !)) (init ! 46 refl (LL.lawful MAnswer.the-type MAnswer′.the-laws 𝓤 H A W .typed r _ known .0)) $
-        use1 W (‵ (froom (tyArray word numberRoom) l₇ 0)) (unmade 𝓤 H A W u64 tt numberRoom l₇ nums (long)) $
+        use1 W (‵ (froom (tyArray word numberCapacity) l₇ 0)) (unmade 𝓤 H A W u64 tt numberCapacity l₇ nums (long)) $
         returns ! (look ! 46 refl) $ forget ! 46 refl $ forget ! 44 refl $ forget ! 42 refl $ forget ! 40 refl $ forget ! 38 refl $ forget ! 36 refl $ forget ! 34 refl $ forget ! 31 refl $ forget ! 29 refl $ forget ! 27 refl $ forget ! 25 refl $ forget ! 23 refl $ forget ! 21 refl $ forget ! 19 refl $ forget ! 17 refl $ forget ! 15 refl $ forget ! 13 refl $ forget ! 11 refl $ forget ! 9 refl $
         move ! (46 ∷ 47 ∷ []) $ free1 ! $ move ! (44 ∷ 45 ∷ []) $ free1 ! $ move ! (42 ∷ 43 ∷ []) $ free1 ! $ move ! (40 ∷ 41 ∷ []) $ free1 ! $ move ! (38 ∷ 39 ∷ []) $ free1 ! $ move ! (36 ∷ 37 ∷ []) $ free1 ! $ move ! (34 ∷ 35 ∷ []) $ free1 ! $ move ! (0 ∷ 33 ∷ []) $ free1 ! $ move ! (30 ∷ 31 ∷ []) $ free1 ! $ move ! (28 ∷ 29 ∷ []) $ free1 ! $ move ! (26 ∷ 27 ∷ []) $ free1 ! $ move ! (24 ∷ 25 ∷ []) $ free1 ! $ move ! (22 ∷ 23 ∷ []) $ free1 ! $ move ! (20 ∷ 21 ∷ []) $ free1 ! $ move ! (18 ∷ 19 ∷ []) $ free1 ! $ move ! (16 ∷ 17 ∷ []) $ free1 ! $ move ! (14 ∷ 15 ∷ []) $ free1 ! $ move ! (12 ∷ 13 ∷ []) $ free1 ! $ move ! (10 ∷ 11 ∷ []) $ free1 ! $ move ! (8 ∷ 9 ∷ []) $ free1 ! $ free0 ! $
         move ! (3 ∷ 0 ∷ []) $ join ! $ move ! (3 ∷ 0 ∷ []) $ join ! $ move ! (3 ∷ 0 ∷ []) $ join ! $ keep ! (0 ∷ 4 ∷ 3 ∷ 1 ∷ []) $ by ! (exits r (zs .1 .1 .1 .0) (zs .1 .1 .1 .1 .0) (zs′ .1 .1 .0) known (e .0) (e .1) (e .2) (e′ .1) (e .3 .fits) (e .3 .few) l-counters l′)))))))))))))))))))))))))))))))))))))))

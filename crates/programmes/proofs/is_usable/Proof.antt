@@ -5,7 +5,7 @@ use mathlib.Core.Bool.{Bool, true, false, _||_, not}
 use borrow.Author.Tests.{le-leb, lt-leb}
 use denote.Ref.{now}
 use Rattle.programmes.specs.Listing.{isNumber, pidUnusable}
-use Rattle.programmes.specs.Reading.{seenTo}
+use Rattle.programmes.specs.inner.Reading.{seenTo}
 use Rattle.programmes.proofs.is_usable.Statement.{statement}
 use Rattle.programmes.proofs.is_usable.Tie as tie
 

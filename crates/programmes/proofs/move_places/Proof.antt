@@ -8,15 +8,17 @@ use lib.ListN.{length, take}
 use lib.Seq.{length-sets, length-take-le}
 use denote.Ref.{now}
 use Rattle.sections.specs.Rooms.{memorySize}
-use Rattle.programmes.specs.Places.{movedPlaces}
-use Rattle.programmes.proofs.Moves.{pid-listed, places-turn, places-none, past-none}
+use Rattle.programmes.specs.Places.{everyPlace, roomsLaid}
+use Rattle.programmes.specs.inner.Moving.{sectionAt}
+use Rattle.programmes.proofs.Moves.{pid-listed, past-back}
+use Rattle.programmes.proofs.Moved.{laidFrom, laid-turn, laid-back}
 use Rattle.programmes.proofs.move_places.Statement.{statement}
 use Rattle.programmes.proofs.move_places.Tie as tie
 
 abbrev Inv-loop : tie.InvT-loop
 Inv-loop mem₀ old old-count new-count new half saved k₀ mem k =
     (k ≤ new-count) × (length mem ≡ memorySize)
-    × (movedPlaces (take old-count old) (take new-count new) half mem₀ 0 16 mem₀ ≡ movedPlaces (take old-count old) (take new-count new) half mem₀ k (16 - k) mem)
+    × (roomsLaid (sectionAt (take old-count old) (take new-count new) half mem₀) everyPlace mem₀ ≡ laidFrom (sectionAt (take old-count old) (take new-count new) half mem₀) k (16 - k) mem)
 
 abbrev μ-loop : tie.MeasureT-loop
 μ-loop mem₀ old old-count new-count new half saved k₀ mem k = new-count - k
@@ -70,7 +72,7 @@ loop-again c =
     let loop = c .before .before .before .before .before .loop in
     let pre = c .before .before .before .before .before .before .before .pre in
     let loop-test = c .before .before .before .before .loop-test in
-    let turn = places-turn (take (args .old-count) (args .old)) (take (args .new-count) (args .t4)) (args .t6) (now (args .mem)) (loop .k) (loop .mem) (omega (arith, pre .0 .2, loop-test .taken)) in
+    let turn = laid-turn (sectionAt (take (args .old-count) (args .old)) (take (args .new-count) (args .t4)) (args .t6) (now (args .mem))) (loop .k) (loop .mem) (omega (arith, pre .0 .2, loop-test .taken)) in
     let pid = pid-listed (args .t4) (args .new-count) (loop .k) (loop-test .taken) in (
       omega arith,
       rw (c .move-place .ensures, length-sets) (loop .inv .1),
@@ -83,7 +85,10 @@ returns c =
     let pre = c .before .before .before .pre in
     let k : c .before .loop .k ≡ args .new-count = omega arith in
     let l = length-take-le (args .new-count) (args .t4) (omega arith) in
-    sym (c .before .loop .inv .2 ∙ places-none _ _ _ _ (c .before .loop .k) _ _ (λ j g h. past-none _ (take (args .new-count) (args .t4)) _ j (pre .1) (omega (arith, k, l, g)) (omega (arith, k, h, pre .0 .2))))
+    let old = take (args .old-count) (args .old) in
+    let new = take (args .new-count) (args .t4) in
+    let mem = c .before .loop .mem in
+    sym (c .before .loop .inv .2 ∙ laid-back (sectionAt old new (args .t6) (now (args .mem))) (c .before .loop .k) (16 - c .before .loop .k) mem (λ j g h. past-back old new (args .t6) (now (args .mem)) (pre .1) j mem (omega (arith, k, l, g)) (omega (arith, k, h, pre .0 .2))))
 
 pub move-places-spec : {M : Type 1} → statement M
 move-places-spec =

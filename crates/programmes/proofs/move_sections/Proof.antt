@@ -1,11 +1,14 @@
 -- `programmes::move_sections` meets its contract. Assumes nothing.
 use borrow.Author.Needs.{needs}
-use mathlib.Core.Path.{sym}
+use mathlib.Core.Path.{sym, _∙_}
 use native.Mathlib.Omega.{arith}
 use lib.ListN.{take}
 use lib.Seq.{length-take-le}
 use denote.Ref.{now}
-use Rattle.programmes.proofs.Moves.{placed, places-stayed}
+use Rattle.programmes.specs.Places.{movedHalves}
+use Rattle.programmes.specs.inner.Moving.{sectionAt}
+use Rattle.programmes.proofs.Moves.{placed, stayed-back, bytes-at}
+use Rattle.programmes.proofs.Moved.{laid-back}
 use Rattle.programmes.proofs.move_sections.Statement.{statement}
 use Rattle.programmes.proofs.move_sections.Tie as tie
 
@@ -26,7 +29,9 @@ returns c =
     let ln = length-take-le (args .new-count) (args .new) (omega arith) in
     let q = placed old new (args .half) (omega arith) (omega (arith, lo, pre .0 .1)) (pre .1) in
     let s = rw (moved-halves .ensures) at (c .before .stays .ensures (c .if1 .taken)) in
-    (moved-halves .ensures, sym (places-stayed old new _ (now (args .mem)) 0 16 (pre .0 .0) (omega arith) q (λ k h some. s k (omega (arith, ln, h)) some)))
+    let next = movedHalves old new (args .half) in
+    let back = stayed-back old new next (now (args .mem)) (pre .0 .0) q (λ k h some. s k (omega (arith, ln, h)) some) in
+    (moved-halves .ensures, sym (bytes-at old new (args .half) (now (args .mem)) (omega arith) ∙ laid-back (sectionAt old new next (now (args .mem))) 0 16 (now (args .mem)) (λ k g h. back k h)))
 
 move-places-requires : tie.Need-move-places-requires
 move-places-requires c κs =
@@ -39,8 +44,9 @@ move-places-requires c κs =
 
 returns-2 : tie.Need-returns-2
 returns-2 c =
+    let args = c .before .before .before .before .before .args in
     let moved-halves = c .before .before .before .before .moved-halves in
-    (moved-halves .ensures, rw (moved-halves .ensures) at (c .move-places .ensures))
+    (moved-halves .ensures, rw (moved-halves .ensures) at (c .move-places .ensures) ∙ sym (bytes-at (take (args .old-count) (args .old)) (take (args .new-count) (args .new)) (args .half) (now (args .mem)) (omega arith)))
 
 pub move-sections-spec : {M : Type 1} → statement M
 move-sections-spec =

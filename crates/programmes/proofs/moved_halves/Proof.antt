@@ -5,19 +5,20 @@ use Prim.Native.Nat.{_-_, _≤_}
 use native.Mathlib.Omega.{arith}
 use lib.ListN.{take}
 use lib.Seq.{sets}
-use Rattle.programmes.specs.Places.{movedFrom}
-use Rattle.programmes.proofs.Moves.{halves-begin, halves-turn, halves-end}
+use Rattle.programmes.proofs.Moves.{movedFirst, halves-begin, halves-turn, halves-end}
 use Rattle.programmes.proofs.moved_halves.Statement.{statement}
 use Rattle.programmes.proofs.moved_halves.Tie as tie
 
 abbrev Inv-loop : tie.InvT-loop
-Inv-loop old old-count new new-count half out₀ k₀ out k = (k ≤ 16) × (out ≡ sets half 5 (movedFrom (take old-count old) (take new-count new) half 0 k))
+Inv-loop old old-count new new-count half out₀ k₀ out k = (k ≤ 16) × (out ≡ sets half 5 (movedFirst (take old-count old) (take new-count new) half k))
 
 abbrev μ-loop : tie.MeasureT-loop
 μ-loop old old-count new new-count half out₀ k₀ out k = 16 - k
 
 loop-holds : tie.Need-loop-holds Inv-loop μ-loop
-loop-holds c = (omega arith, sym (halves-begin _ _ _))
+loop-holds c =
+    let args = c .args in
+    (omega arith, sym (halves-begin (take (args .old-count) (args .old)) (take (args .new-count) (args .new)) (args .half)))
 
 moved-half-requires : tie.Need-moved-half-requires Inv-loop μ-loop
 moved-half-requires c κs = search needs
@@ -39,13 +40,15 @@ loop-less c = search needs
 
 loop-again : tie.Need-loop-again Inv-loop μ-loop
 loop-again c =
+    let args = c .before .before .before .args in
     let loop = c .before .before .loop in
-    (omega arith, rw (loop .inv .1, c .moved-half .ensures) (halves-turn _ _ _ (loop .k)))
+    (omega arith, rw (loop .inv .1, c .moved-half .ensures) (halves-turn (take (args .old-count) (args .old)) (take (args .new-count) (args .new)) (args .half) (loop .k)))
 
 returns : tie.Need-returns Inv-loop μ-loop
 returns c =
+    let args = c .before .before .args in
     let k : c .before .loop .k ≡ 16 = omega arith in
-    c .before .loop .inv .1 ∙ rw k (halves-end _ _ _ (omega arith))
+    c .before .loop .inv .1 ∙ rw k (halves-end (take (args .old-count) (args .old)) (take (args .new-count) (args .new)) (args .half) (omega arith))
 
 pub moved-halves-spec : {M : Type 1} → statement M
 moved-halves-spec =

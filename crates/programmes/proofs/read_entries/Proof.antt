@@ -10,7 +10,7 @@ use lib.ListN.{length, take, drop, length-drop}
 use borrow.Author.Tests.{eq-eqb, ne-eqb}
 use denote.Ref.{now}
 use Rattle.programmes.specs.Listing.{noneListed, readOn}
-use Rattle.programmes.specs.Reading.{seenTo}
+use Rattle.programmes.specs.inner.Reading.{seenTo}
 use Rattle.programmes.proofs.Reading.{added-turn, read-turn, read-begins, read-ends}
 use Rattle.programmes.proofs.read_entries.Statement.{statement}
 use Rattle.programmes.proofs.read_entries.Tie as tie

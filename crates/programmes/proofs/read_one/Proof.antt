@@ -4,7 +4,7 @@ use mathlib.Core.Path.{sym}
 use mathlib.Core.Bool.{true≢false}
 use borrow.Author.Tests.{eq-eqb, ne-eqb, not-true, not-false}
 use denote.Ref.{now}
-use Rattle.programmes.specs.Reading.{numberAt, pidIn, seenTo}
+use Rattle.programmes.specs.inner.Reading.{numberAt, pidIn, seenTo}
 use Rattle.programmes.proofs.Reading.{marked-none, entered-bad, entered-listed, listed-room}
 use Rattle.programmes.proofs.read_one.Statement.{statement}
 use Rattle.programmes.proofs.read_one.Tie as tie

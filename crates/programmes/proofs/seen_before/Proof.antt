@@ -6,7 +6,7 @@ use native.Mathlib.Omega.{arith}
 use borrow.Author.Tests.{eq-eqb, ne-eqb}
 use denote.Ref.{now}
 use Rattle.programmes.specs.Listing.{isNumber}
-use Rattle.programmes.specs.Reading.{seenTo}
+use Rattle.programmes.specs.inner.Reading.{seenTo}
 use Rattle.programmes.proofs.Reading.{seen-turn, seen-none}
 use Rattle.programmes.proofs.seen_before.Statement.{statement}
 use Rattle.programmes.proofs.seen_before.Tie as tie

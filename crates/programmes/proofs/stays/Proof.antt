@@ -6,7 +6,7 @@ use Prim.Native.Nat.{_-_, _≤_}
 use native.Mathlib.Omega.{arith}
 use lib.ListN.{take}
 use borrow.Author.Tests.{not-false}
-use Rattle.programmes.specs.Moving.{Stayed}
+use Rattle.programmes.specs.inner.Moving.{Stayed}
 use Rattle.programmes.proofs.Moves.{stayed-turn}
 use Rattle.programmes.proofs.stays.Statement.{statement}
 use Rattle.programmes.proofs.stays.Tie as tie
@@ -26,17 +26,17 @@ mul-e c = search needs
 array-copy-out-e : tie.Need-array-copy-out-e Inv-loop μ-loop
 array-copy-out-e c = search needs
 
-add-keeps : tie.Need-add-keeps Inv-loop μ-loop
-add-keeps c = search needs
+add-stays-at : tie.Need-add-stays-at Inv-loop μ-loop
+add-stays-at c = search needs
 
-mul-keeps : tie.Need-mul-keeps Inv-loop μ-loop
-mul-keeps c = search needs
+mul-stays-at : tie.Need-mul-stays-at Inv-loop μ-loop
+mul-stays-at c = search needs
 
-array-read-keeps : tie.Need-array-read-keeps Inv-loop μ-loop
-array-read-keeps c = search needs
+array-read-stays-at : tie.Need-array-read-stays-at Inv-loop μ-loop
+array-read-stays-at c = search needs
 
-keeps-requires : tie.Need-keeps-requires Inv-loop μ-loop
-keeps-requires c κs = search needs
+stays-at-requires : tie.Need-stays-at-requires Inv-loop μ-loop
+stays-at-requires c κs = search needs
 
 returns : tie.Need-returns Inv-loop μ-loop
 returns c = λ e. absurd (true≢false (sym e))
@@ -51,7 +51,7 @@ loop-again : tie.Need-loop-again Inv-loop μ-loop
 loop-again c =
     let args = c .before .before .before .before .before .args in
     let loop = c .before .before .before .before .loop in
-    (omega arith, stayed-turn _ (args .t3) (args .new-count) (args .t5) (loop .k) (c .before .before .before .loop-test .taken) (loop .inv .1) (c .before .keeps .ensures (not-false _ (c .if1 .left))))
+    (omega arith, stayed-turn _ (args .t3) (args .new-count) (args .t5) (loop .k) (c .before .before .before .loop-test .taken) (loop .inv .1) (c .before .stays-at .ensures (not-false _ (c .if1 .left))))
 
 returns-2 : tie.Need-returns-2 Inv-loop μ-loop
 returns-2 c = λ e k h. c .before .loop .inv .1 k (omega (arith, h))
@@ -65,10 +65,10 @@ stays-spec =
     loop-holds
     mul-e
     array-copy-out-e
-    add-keeps
-    mul-keeps
-    array-read-keeps
-    keeps-requires
+    add-stays-at
+    mul-stays-at
+    array-read-stays-at
+    stays-at-requires
     returns
     add-k
     loop-less

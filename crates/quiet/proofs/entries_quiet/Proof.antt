@@ -9,7 +9,7 @@ use borrow.Author.Tests.{not-true, not-false}
 use Rattle.watches.specs.Tables.{noEntry}
 use Rattle.arrays.specs.Lent.{entriesIn}
 use Rattle.arrays.proofs.Stores.{entry-at, entries-length}
-use Rattle.quiet.specs.Quiet.{entriesQuiet, unmarked}
+use Rattle.quiet.specs.inner.Quiet.{entriesQuiet, unmarked}
 use Rattle.quiet.proofs.Turns.{entries-here, entries-marked, entries-on, entries-end}
 use Rattle.quiet.proofs.entries_quiet.Statement.{statement}
 use Rattle.quiet.proofs.entries_quiet.Tie as tie

@@ -7,7 +7,7 @@ use Prim.Native.Nat.{ℕ, _+_}
 use lib.Dec.{leb, ltb}
 use borrow.Author.Tests.{lt-leb, le-leb}
 use Rattle.lateness.specs.Gaps.{keep}
-use Rattle.quiet.specs.Quiet.{none}
+use Rattle.quiet.specs.inner.Quiet.{none}
 use Rattle.quiet.proofs.gap_quiet.Statement.{statement}
 use Rattle.quiet.proofs.gap_quiet.Tie as tie
 

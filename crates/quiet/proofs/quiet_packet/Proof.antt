@@ -6,7 +6,7 @@ use borrow.Author.Tests.{not-true, not-false}
 use Rattle.header.specs.declared.Header.{Header}
 use Rattle.header.specs.Header.{pidOf, headerOf}
 use Rattle.arrays.specs.Lent.{stateIn}
-use Rattle.quiet.specs.Quiet.{stateQuiet, countQuiet}
+use Rattle.quiet.specs.inner.Quiet.{stateQuiet, countQuiet}
 use Rattle.quiet.proofs.Turns.{still-loud, now-loud, still-quiet}
 use Rattle.quiet.proofs.quiet_packet.Statement.{statement}
 use Rattle.quiet.proofs.quiet_packet.Tie as tie

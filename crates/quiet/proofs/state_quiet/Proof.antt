@@ -17,7 +17,7 @@ use Rattle.sections.specs.Rooms.{roomCount}
 use Rattle.programmes.specs.Listing.{mostListed}
 use Rattle.calls.specs.Sound.{roomsSound}
 use Rattle.arrays.specs.Lent.{syncLost, syncRun, gapsIn, countIn, entriesIn, halvesIn, stateIn, latestAt, gapsAt, halvesAt}
-use Rattle.quiet.specs.Quiet.{rowsQuiet, entriesQuiet, unmarked, stateQuiet}
+use Rattle.quiet.specs.inner.Quiet.{rowsQuiet, entriesQuiet, unmarked, stateQuiet}
 use Rattle.quiet.proofs.state_quiet.Statement.{statement}
 use Rattle.quiet.proofs.state_quiet.Tie as tie
 

@@ -3,7 +3,7 @@ use borrow.Author.Needs.{needs}
 use mathlib.Core.Path.{sym, _∙_}
 use borrow.Author.Tests.{not-true, not-false}
 use Rattle.watches.specs.Late.{tableRows}
-use Rattle.quiet.specs.Quiet.{rowsQuiet}
+use Rattle.quiet.specs.inner.Quiet.{rowsQuiet}
 use Rattle.quiet.proofs.Turns.{cond-same, five-all}
 use Rattle.quiet.proofs.tables_quiet.Statement.{statement}
 use Rattle.quiet.proofs.tables_quiet.Tie as tie

@@ -8,11 +8,11 @@ use borrow.Author.Tests.{ltb-true}
 use Rattle.lists.proofs.Tests.{and-right}
 use Rattle.lists.proofs.Laying.{laid-turn, laid-length}
 use Rattle.events.specs.Events.{numbersOf}
-use Rattle.events.specs.Room.{recordWidth}
+use Rattle.events.specs.Capacity.{recordWidth}
 use Rattle.header.specs.Header.{pidOf}
 use Rattle.header.proofs.Payload.{counter-small}
 use Rattle.arrays.specs.Lent.{coreIn}
-use Rattle.payloads.specs.Taking.{held}
+use Rattle.payloads.specs.inner.Taking.{held}
 use Rattle.steps.proofs.Doing.{done-as, done-from, done-quiet, done-also, fields, counter-scrambled, counter-clear}
 use Rattle.arrays.proofs.Kept.{latest-same}
 use Rattle.steps.proofs.judge_counter.Statement.{statement}

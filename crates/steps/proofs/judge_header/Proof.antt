@@ -8,7 +8,7 @@ use Rattle.lists.proofs.Laying.{laid-none}
 use Rattle.events.specs.Faults.{transportError}
 use Rattle.calls.specs.Steps.{packetEvents}
 use Rattle.arrays.specs.Lent.{coreIn}
-use Rattle.payloads.specs.Taking.{held}
+use Rattle.payloads.specs.inner.Taking.{held}
 use Rattle.steps.proofs.Doing.{done-as, quiet, done-quiet, done-also, fields, error-ends, null-ends, header-passed}
 use Rattle.arrays.proofs.Kept.{moved-none}
 use Rattle.steps.proofs.judge_header.Statement.{statement}

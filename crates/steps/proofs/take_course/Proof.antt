@@ -10,7 +10,7 @@ use Rattle.header.proofs.Payload.{payload-within, payload-from}
 use Rattle.calls.specs.declared.Core.{Core}
 use Rattle.calls.specs.Sound.{roomsSound}
 use Rattle.arrays.specs.Lent.{coreIn}
-use Rattle.payloads.specs.Taking.{held}
+use Rattle.payloads.specs.inner.Taking.{held}
 use Rattle.steps.proofs.Rooms.{kept-count, kept-sound}
 use Rattle.steps.proofs.Doing.{done-as, done-from, done-quiet, fields, kept-held, left-out, taken-in}
 use Rattle.arrays.proofs.Kept.{latest-same, sync-then}

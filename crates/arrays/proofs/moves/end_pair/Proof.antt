@@ -13,7 +13,7 @@ use Rattle.programmes.specs.Listing.{mostListed}
 use Rattle.calls.specs.Steps.{touched}
 use Rattle.arrays.specs.Lent.{countIn, gapsIn, entriesIn, gapsAt, sincesAt, pidsAt, numbersAt}
 use Rattle.arrays.proofs.Stores.{entry-at, entries-length, since-laid-at}
-use Rattle.arrays.specs.Lent.{LatestKept}
+use Rattle.arrays.specs.inner.Kept.{LatestKept}
 use Rattle.arrays.proofs.Kept.{latest-same, latest-then, latest-kept}
 use Rattle.arrays.proofs.moves.end_pair.Statement.{statement}
 use Rattle.arrays.proofs.moves.end_pair.Tie as tie

@@ -2,7 +2,7 @@
 use mathlib.Core.Path.{ap}
 use lib.ListN.{replicate}
 use borrow.Author.Needs.{needs}
-use Rattle.events.specs.Room.{leastRoom}
+use Rattle.events.specs.Capacity.{leastCapacity}
 use Rattle.call_lines.proofs.run.marks.Statement.{statement}
 use Rattle.call_lines.proofs.run.marks.Tie as tie
 
@@ -10,7 +10,7 @@ mark-requires : tie.Need-mark-requires
 mark-requires c κs = search needs
 
 returns : tie.Need-returns
-returns c = ap (λ e. replicate leastRoom e) (c .mark .ensures)
+returns c = ap (λ e. replicate leastCapacity e) (c .mark .ensures)
 
 pub marks-spec : {M : Type 1} → statement M
 marks-spec = tie.close (tie.spec mark-requires returns)

@@ -1,15 +1,15 @@
 -- `call_lines::show::events` meets its contract. Assumes nothing.
 use borrow.Author.Needs.{needs}
 use Prim.Native.Nat.{_-_, _≤_}
-use Rattle.events.specs.Room.{leastRoom}
+use Rattle.events.specs.Capacity.{leastCapacity}
 use Rattle.call_lines.proofs.show.events.Statement.{statement}
 use Rattle.call_lines.proofs.show.events.Tie as tie
 
 abbrev Inv-loop : tie.InvT-loop
-Inv-loop n list untouched₀ i₀ t7 untouched i = i ≤ leastRoom
+Inv-loop n list untouched₀ i₀ t7 untouched i = i ≤ leastCapacity
 
 abbrev μ-loop : tie.MeasureT-loop
-μ-loop n list untouched₀ i₀ t7 untouched i = leastRoom - i
+μ-loop n list untouched₀ i₀ t7 untouched i = leastCapacity - i
 
 loop-holds : tie.Need-loop-holds Inv-loop μ-loop
 loop-holds c = search needs

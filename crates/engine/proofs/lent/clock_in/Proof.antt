@@ -4,7 +4,8 @@ use native.Mathlib.Omega.{arith}
 use denote.Ref.{now}
 use mathlib.Core.Path.{sym, _∙_}
 use Rattle.calls.proofs.Accepted.{clock-accepted, sound-parts, entry-since}
-use Rattle.arrays.specs.Lent.{stateIn, Sized}
+use Rattle.arrays.specs.Lent.{stateIn}
+use Rattle.arrays.specs.inner.Kept.{Sized}
 use Rattle.engine.proofs.Ends.{sound-run, clock-refused, clock-done}
 use Rattle.engine.proofs.lent.clock_in.Statement.{statement}
 use Rattle.engine.proofs.lent.clock_in.Tie as tie
@@ -31,7 +32,7 @@ returns c =
     let times = now (args .times) in
     let words = now (args .words) in
     let sized : Sized times words = record { long = c .before .before .before .before .before .before .before .before .before .before .before .before .time-count .ensures .1; wide = c .before .before .before .before .before .before .before .before .before .before .word-count .ensures .1 } in
-    clock-refused times words (args .time) (now (args .memory)) (args .room) (now (args .numbers)) (c .before .clock-refusal .result) (c .before .clock-refusal .ensures) (c .if1 .taken)
+    clock-refused times words (args .time) (now (args .memory)) (args .capacity) (now (args .numbers)) (c .before .clock-refusal .result) (c .before .clock-refusal .ensures) (c .if1 .taken)
 
 judge-late-requires : tie.Need-judge-late-requires
 unfolding stateIn
@@ -42,7 +43,7 @@ judge-late-requires c κs =
     let words = now (args .words) in
     let sized : Sized times words = record { long = c .before .before .before .before .before .before .before .before .before .before .before .before .before .before .before .before .before .time-count .ensures .1; wide = c .before .before .before .before .before .before .before .before .before .before .before .before .before .before .before .word-count .ensures .1 } in
     let e = sym (c .before .before .before .before .before .before .clock-refusal .ensures) ∙ c .before .before .before .before .before .if1 .left in
-    let a = clock-accepted (stateIn times words) (args .time) (now (args .memory)) (args .room) e in
+    let a = clock-accepted (stateIn times words) (args .time) (now (args .memory)) (args .capacity) e in
     let h = sound-parts (stateIn times words) (now (args .memory)) (a .sound) in
     (sized, omega (arith, c .before .before .before .before .before .before .before .before .before .before .before .before .numbers-size .ensures .1), h .count, h .since, entry-since (stateIn times words) (now (args .memory)) h)
 
@@ -55,7 +56,7 @@ settle-requires c κs =
     let words = now (args .words) in
     let sized : Sized times words = record { long = c .before .before .before .before .before .before .before .before .before .before .before .before .before .before .before .before .before .before .before .before .time-count .ensures .1; wide = c .before .before .before .before .before .before .before .before .before .before .before .before .before .before .before .before .before .before .word-count .ensures .1 } in
     let e = sym (c .before .before .before .before .before .before .before .before .before .clock-refusal .ensures) ∙ c .before .before .before .before .before .before .before .before .if1 .left in
-    let a = clock-accepted (stateIn times words) (args .time) (now (args .memory)) (args .room) e in
+    let a = clock-accepted (stateIn times words) (args .time) (now (args .memory)) (args .capacity) e in
     let h = sound-parts (stateIn times words) (now (args .memory)) (a .sound) in
     (sized .long, sized .wide, h .count, sound-run (stateIn times words) (now (args .memory)) h)
 
@@ -67,10 +68,10 @@ returns-2 c =
     let words = now (args .words) in
     let sized : Sized times words = record { long = c .before .before .before .before .before .before .before .before .before .before .before .before .before .before .before .before .before .before .before .before .before .time-count .ensures .1; wide = c .before .before .before .before .before .before .before .before .before .before .before .before .before .before .before .before .before .before .before .word-count .ensures .1 } in
     let e = sym (c .before .before .before .before .before .before .before .before .before .before .clock-refusal .ensures) ∙ c .before .before .before .before .before .before .before .before .before .if1 .left in
-    let a = clock-accepted (stateIn times words) (args .time) (now (args .memory)) (args .room) e in
+    let a = clock-accepted (stateIn times words) (args .time) (now (args .memory)) (args .capacity) e in
     let h = sound-parts (stateIn times words) (now (args .memory)) (a .sound) in
     let l = c .before .before .before .judge-late .ensures in
-    clock-done times words (args .time) (now (args .memory)) (args .room) (now (args .numbers)) e (l .0) (l .1) (l .2) (l .3) (c .settle .ensures .0) (c .settle .ensures .1)
+    clock-done times words (args .time) (now (args .memory)) (args .capacity) (now (args .numbers)) e (l .0) (l .1) (l .2) (l .3) (c .settle .ensures .0) (c .settle .ensures .1)
 
 pub clock-in-spec : {M : Type 1} → statement M
 clock-in-spec =

@@ -7,7 +7,7 @@ use lib.ListN.{length, getD}
 use Rattle.lists.proofs.Places.{part-length}
 use Rattle.lists.proofs.Laying.{laid-length, laid-turn}
 use Rattle.events.specs.Events.{numbersOf}
-use Rattle.events.specs.Room.{recordWidth}
+use Rattle.events.specs.Capacity.{recordWidth}
 use Rattle.watches.specs.Tables.{fixedTables, fixedCount}
 use Rattle.watches.specs.Late.{tableRows, entryRows}
 use Rattle.watches.proofs.Late.{rows-append, tables-whole, entries-most}

@@ -8,7 +8,7 @@ use borrow.Author.Count.{below-more}
 use lib.ListN.{length, getD, take}
 use Rattle.lists.proofs.Laying.{laid-none, laid-length, laid-turn}
 use Rattle.events.specs.Events.{numbersOf, eventsLaid}
-use Rattle.events.specs.Room.{recordWidth}
+use Rattle.events.specs.Capacity.{recordWidth}
 use Rattle.watches.specs.Tables.{noEntry}
 use Rattle.watches.specs.Late.{entryRows, rowsLate}
 use Rattle.watches.proofs.Late.{entries-turn, rows-none, entries-most}

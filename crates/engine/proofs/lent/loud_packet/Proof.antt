@@ -11,10 +11,11 @@ use Rattle.header.specs.Header.{pidOf, headerOf}
 use Rattle.calls.specs.declared.Core.{Core}
 use Rattle.calls.specs.Calls.{packetRefusal}
 use Rattle.calls.proofs.Accepted.{packet-accepted, sound-parts, entry-since}
-use Rattle.arrays.specs.Lent.{stateIn, Sized}
+use Rattle.arrays.specs.Lent.{stateIn}
+use Rattle.arrays.specs.inner.Kept.{Sized}
 use Rattle.arrays.proofs.Shapes.{packet-small, held-typed}
 use Rattle.arrays.proofs.Same.{times-same, told-same}
-use Rattle.checks.specs.Ladders.{stateRefusal}
+use Rattle.checks.specs.inner.Ladders.{stateRefusal}
 use Rattle.checks.proofs.Ladders.{right-passed}
 use Rattle.engine.proofs.Ends.{sound-rooms, sound-run, packet-refused, packet-done}
 use Rattle.engine.proofs.lent.loud_packet.Statement.{statement}
@@ -46,8 +47,8 @@ returns c =
     let counters = now (args .counters) in
     let memory = now (args .memory) in
     let s = stateIn times words in
-    let number = c .before .state-refusal .ensures ∙ ap (stateRefusal s (args .time) memory) (start .pre .1 .byte) ∙ sym (right-passed s (args .time) packet counters memory (args .room) (start .pre .0)) in
-    packet-refused times words (args .time) packet counters memory (args .room) (now (args .numbers)) (c .before .state-refusal .result) number (c .if1 .taken)
+    let number = c .before .state-refusal .ensures ∙ ap (stateRefusal s (args .time) memory) (start .pre .1 .byte) ∙ sym (right-passed s (args .time) packet counters memory (args .capacity) (start .pre .0)) in
+    packet-refused times words (args .time) packet counters memory (args .capacity) (now (args .numbers)) (c .before .state-refusal .result) number (c .if1 .taken)
 
 judge-late-requires : tie.Need-judge-late-requires
 unfolding stateIn
@@ -61,8 +62,8 @@ judge-late-requires c κs =
     let counters = now (args .counters) in
     let memory = now (args .memory) in
     let s = stateIn times words in
-    let e : packetRefusal s (args .time) packet counters memory (args .room) ≡ 0 = right-passed s (args .time) packet counters memory (args .room) (start .pre .0) ∙ ap (stateRefusal s (args .time) memory) (sym (start .pre .1 .byte)) ∙ sym (c .before .before .before .before .before .before .state-refusal .ensures) ∙ c .before .before .before .before .before .if1 .left in
-    let a = packet-accepted s (args .time) packet counters memory (args .room) e in
+    let e : packetRefusal s (args .time) packet counters memory (args .capacity) ≡ 0 = right-passed s (args .time) packet counters memory (args .capacity) (start .pre .0) ∙ ap (stateRefusal s (args .time) memory) (sym (start .pre .1 .byte)) ∙ sym (c .before .before .before .before .before .before .state-refusal .ensures) ∙ c .before .before .before .before .before .if1 .left in
+    let a = packet-accepted s (args .time) packet counters memory (args .capacity) e in
     let h = sound-parts s memory (a .sound) in
     (sized, omega (arith, c .before .before .before .before .before .before .before .before .before .before .before .before .before .numbers-size .ensures .1), h .count, h .since, entry-since s memory h)
 
@@ -78,8 +79,8 @@ judge-packet-requires c κs =
     let counters = now (args .counters) in
     let memory = now (args .memory) in
     let s = stateIn times words in
-    let e : packetRefusal s (args .time) packet counters memory (args .room) ≡ 0 = right-passed s (args .time) packet counters memory (args .room) (start .pre .0) ∙ ap (stateRefusal s (args .time) memory) (sym (start .pre .1 .byte)) ∙ sym (c .before .before .before .before .before .before .before .before .before .before .before .before .state-refusal .ensures) ∙ c .before .before .before .before .before .before .before .before .before .before .before .if1 .left in
-    let a = packet-accepted s (args .time) packet counters memory (args .room) e in
+    let e : packetRefusal s (args .time) packet counters memory (args .capacity) ≡ 0 = right-passed s (args .time) packet counters memory (args .capacity) (start .pre .0) ∙ ap (stateRefusal s (args .time) memory) (sym (start .pre .1 .byte)) ∙ sym (c .before .before .before .before .before .before .before .before .before .before .before .before .state-refusal .ensures) ∙ c .before .before .before .before .before .before .before .before .before .before .before .if1 .left in
+    let a = packet-accepted s (args .time) packet counters memory (args .capacity) e in
     let h = sound-parts s memory (a .sound) in
     let l = c .before .before .before .before .before .judge-late .ensures in (
       (
@@ -119,14 +120,14 @@ returns-2 c =
     let counters = now (args .counters) in
     let memory = now (args .memory) in
     let s = stateIn times words in
-    let e : packetRefusal s (args .time) packet counters memory (args .room) ≡ 0 = right-passed s (args .time) packet counters memory (args .room) (start .pre .0) ∙ ap (stateRefusal s (args .time) memory) (sym (start .pre .1 .byte)) ∙ sym (c .before .before .before .before .before .before .before .before .before .before .before .before .before .before .before .state-refusal .ensures) ∙ c .before .before .before .before .before .before .before .before .before .before .before .before .before .before .if1 .left in
-    let a = packet-accepted s (args .time) packet counters memory (args .room) e in
+    let e : packetRefusal s (args .time) packet counters memory (args .capacity) ≡ 0 = right-passed s (args .time) packet counters memory (args .capacity) (start .pre .0) ∙ ap (stateRefusal s (args .time) memory) (sym (start .pre .1 .byte)) ∙ sym (c .before .before .before .before .before .before .before .before .before .before .before .before .before .before .before .state-refusal .ensures) ∙ c .before .before .before .before .before .before .before .before .before .before .before .before .before .before .if1 .left in
+    let a = packet-accepted s (args .time) packet counters memory (args .capacity) e in
     let h = sound-parts s memory (a .sound) in
     let l = c .before .before .before .before .before .before .before .before .judge-late .ensures in
     let done = c .before .before .judge-packet .ensures in
     let small = packet-small s (held-typed times words sized) (args .time) packet counters memory (a .sound) in
     let pid : pidOf packet < 65536 = omega (arith, start .pre .2, ap (λ (k : Header). k .pid) (start .pre .1 .header)) in
-    packet-done times words (args .time) packet counters memory (args .room) (now (args .numbers)) e (a .time) pid (l .0) (l .1) (l .2) (l .3) (done .0) (sym (times-same (c .before .before .judge-packet .last .0) (c .before .before .judge-packet .last .1 .0) (args .time) (done .1 .0 .long))) (sym (told-same (c .before .before .judge-packet .last .0) (c .before .before .judge-packet .last .1 .0) (args .time) (done .1 .1) (omega (arith, ap (λ (k : Core). k .count) (done .0 .core), small .0))))
+    packet-done times words (args .time) packet counters memory (args .capacity) (now (args .numbers)) e (a .time) pid (l .0) (l .1) (l .2) (l .3) (done .0) (sym (times-same (c .before .before .judge-packet .last .0) (c .before .before .judge-packet .last .1 .0) (args .time) (done .1 .0 .long))) (sym (told-same (c .before .before .judge-packet .last .0) (c .before .before .judge-packet .last .1 .0) (args .time) (done .1 .1) (omega (arith, ap (λ (k : Core). k .count) (done .0 .core), small .0))))
 
 pub loud-packet-spec : {M : Type 1} → statement M
 loud-packet-spec =

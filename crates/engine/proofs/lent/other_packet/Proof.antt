@@ -24,15 +24,15 @@ returns c =
     let args = c .before .before .before .before .before .args in
     let given = c .before .sizes-refusal in
     let s = stateIn (now (args .times)) (now (args .words)) in
-    let number = given .ensures ∙ sym (sizes-given s (args .time) (now (args .packet)) (now (args .counters)) (now (args .memory)) (args .room) (λ z. c .if1 .taken (given .ensures ∙ z))) in
-    packet-refused (now (args .times)) (now (args .words)) (args .time) (now (args .packet)) (now (args .counters)) (now (args .memory)) (args .room) (now (args .numbers)) (given .result) number (c .if1 .taken)
+    let number = given .ensures ∙ sym (sizes-given s (args .time) (now (args .packet)) (now (args .counters)) (now (args .memory)) (args .capacity) (λ z. c .if1 .taken (given .ensures ∙ z))) in
+    packet-refused (now (args .times)) (now (args .words)) (args .time) (now (args .packet)) (now (args .counters)) (now (args .memory)) (args .capacity) (now (args .numbers)) (given .result) number (c .if1 .taken)
 
 read-requires : tie.Need-read-requires
 read-requires c κs =
     let args = c .before .before .before .before .before .args in
     let packet = now (args .packet) in
     let counters = now (args .counters) in
-    let right = sizes-right (args .time) packet counters (args .room) (sym (c .before .sizes-refusal .ensures) ∙ c .if1 .left) in
+    let right = sizes-right (args .time) packet counters (args .capacity) (sym (c .before .sizes-refusal .ensures) ∙ c .if1 .left) in
     right .packet
 
 cast-byte : tie.Need-cast-byte
@@ -43,7 +43,7 @@ slice-read-byte c =
     let args = c .before .before .before .before .before .before .before .before .args in
     let packet = now (args .packet) in
     let counters = now (args .counters) in
-    let right = sizes-right (args .time) packet counters (args .room) (sym (c .before .before .before .before .sizes-refusal .ensures) ∙ c .before .before .before .if1 .left) in
+    let right = sizes-right (args .time) packet counters (args .capacity) (sym (c .before .before .before .before .sizes-refusal .ensures) ∙ c .before .before .before .if1 .left) in
     omega (arith, c .before .before .read .ensures .1, right .table)
 
 loud-packet-requires : tie.Need-loud-packet-requires
@@ -52,7 +52,7 @@ loud-packet-requires c κs =
     let args = c .before .before .before .before .before .before .before .before .before .before .before .before .before .args in
     let packet = now (args .packet) in
     let counters = now (args .counters) in
-    let right = sizes-right (args .time) packet counters (args .room) (sym (c .before .before .before .before .before .before .before .before .before .sizes-refusal .ensures) ∙ c .before .before .before .before .before .before .before .before .if1 .left) in
+    let right = sizes-right (args .time) packet counters (args .capacity) (sym (c .before .before .before .before .before .before .before .before .before .sizes-refusal .ensures) ∙ c .before .before .before .before .before .before .before .before .if1 .left) in
     let read = c .before .before .before .before .before .before .before .read in
     let pid : read .result .pid ≡ pidOf packet = ap (λ (h : Header). h .pid) (read .ensures .0) in
     let byte : getD counters (read .result .pid) 0 ≡ getD counters (pidOf packet) 0 = ap (λ (k : ℕ). getD counters k 0) pid in

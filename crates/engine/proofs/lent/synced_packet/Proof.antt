@@ -9,9 +9,10 @@ use lib.ListN.{getD, set}
 use Rattle.header.specs.declared.Header.{Header}
 use Rattle.header.specs.Header.{pidOf, headerOf}
 use Rattle.checks.proofs.Ladders.{sizes-right, sizes-given}
-use Rattle.arrays.specs.Lent.{stateIn, Sized}
+use Rattle.arrays.specs.Lent.{stateIn}
+use Rattle.arrays.specs.inner.Kept.{Sized}
 use Rattle.engine.proofs.Ends.{packet-refused, packet-quiet}
-use Rattle.quiet.specs.Quiet.{quietCall, quietByte}
+use Rattle.quiet.specs.inner.Quiet.{quietCall, quietByte}
 use Rattle.quiet.proofs.Turns.{told-quiet}
 use Rattle.engine.proofs.lent.synced_packet.Statement.{statement}
 use Rattle.engine.proofs.lent.synced_packet.Tie as tie
@@ -37,8 +38,8 @@ returns c =
     let args = start .args in
     let given = c .before .sizes-refusal in
     let s = stateIn (now (args .times)) (now (args .words)) in
-    let number = given .ensures ∙ sym (sizes-given s (args .time) (now (args .packet)) (now (args .counters)) (now (args .memory)) (args .room) (λ z. c .if1 .taken (given .ensures ∙ z))) in
-    packet-refused (now (args .times)) (now (args .words)) (args .time) (now (args .packet)) (now (args .counters)) (now (args .memory)) (args .room) (now (args .numbers)) (given .result) number (c .if1 .taken)
+    let number = given .ensures ∙ sym (sizes-given s (args .time) (now (args .packet)) (now (args .counters)) (now (args .memory)) (args .capacity) (λ z. c .if1 .taken (given .ensures ∙ z))) in
+    packet-refused (now (args .times)) (now (args .words)) (args .time) (now (args .packet)) (now (args .counters)) (now (args .memory)) (args .capacity) (now (args .numbers)) (given .result) number (c .if1 .taken)
 
 read-requires : tie.Need-read-requires
 read-requires c κs =
@@ -46,7 +47,7 @@ read-requires c κs =
     let args = start .args in
     let packet = now (args .packet) in
     let counters = now (args .counters) in
-    let right = sizes-right (args .time) packet counters (args .room) (sym (c .before .sizes-refusal .ensures) ∙ c .if1 .left) in
+    let right = sizes-right (args .time) packet counters (args .capacity) (sym (c .before .sizes-refusal .ensures) ∙ c .if1 .left) in
     right .packet
 
 cast-pid : tie.Need-cast-pid
@@ -58,7 +59,7 @@ slice-read-byte c =
     let args = start .args in
     let packet = now (args .packet) in
     let counters = now (args .counters) in
-    let right = sizes-right (args .time) packet counters (args .room) (sym (c .before .before .before .before .sizes-refusal .ensures) ∙ c .before .before .before .if1 .left) in
+    let right = sizes-right (args .time) packet counters (args .capacity) (sym (c .before .before .before .before .sizes-refusal .ensures) ∙ c .before .before .before .if1 .left) in
     omega (arith, c .before .before .read .ensures .1, right .table)
 
 quiet-packet-requires : tie.Need-quiet-packet-requires
@@ -67,7 +68,7 @@ quiet-packet-requires c κs =
     let args = start .args in
     let packet = now (args .packet) in
     let counters = now (args .counters) in
-    let right = sizes-right (args .time) packet counters (args .room) (sym (c .before .before .before .before .before .before .before .before .before .before .sizes-refusal .ensures) ∙ c .before .before .before .before .before .before .before .before .before .if1 .left) in
+    let right = sizes-right (args .time) packet counters (args .capacity) (sym (c .before .before .before .before .before .before .before .before .before .before .sizes-refusal .ensures) ∙ c .before .before .before .before .before .before .before .before .before .if1 .left) in
     ((omega (arith, c .before .before .before .before .before .before .before .before .before .before .before .before .before .before .before .before .time-count .ensures .1), omega (arith, c .before .before .before .before .before .before .before .before .before .before .before .before .before .before .word-count .ensures .1), c .before .before .before .before .before .before .before .before .before .before .before .before .memory-size .ensures .1), (right .packet, c .before .before .before .before .before .before .before .before .read .ensures .0))
 
 slice-write-counters : tie.Need-slice-write-counters
@@ -76,7 +77,7 @@ slice-write-counters c =
     let args = start .args in
     let packet = now (args .packet) in
     let counters = now (args .counters) in
-    let right = sizes-right (args .time) packet counters (args .room) (sym (c .before .before .before .before .before .before .before .before .before .before .before .before .sizes-refusal .ensures) ∙ c .before .before .before .before .before .before .before .before .before .before .before .if1 .left) in
+    let right = sizes-right (args .time) packet counters (args .capacity) (sym (c .before .before .before .before .before .before .before .before .before .before .before .before .sizes-refusal .ensures) ∙ c .before .before .before .before .before .before .before .before .before .before .before .if1 .left) in
     omega (arith, c .before .before .before .before .before .before .before .before .before .before .read .ensures .1, right .table)
 
 element-write-times : tie.Need-element-write-times
@@ -92,7 +93,7 @@ returns-2 c =
     let args = start .args in
     let packet = now (args .packet) in
     let counters = now (args .counters) in
-    let right = sizes-right (args .time) packet counters (args .room) (sym (c .before .before .before .before .before .before .before .before .before .before .before .before .sizes-refusal .ensures) ∙ c .before .before .before .before .before .before .before .before .before .before .before .if1 .left) in
+    let right = sizes-right (args .time) packet counters (args .capacity) (sym (c .before .before .before .before .before .before .before .before .before .before .before .before .sizes-refusal .ensures) ∙ c .before .before .before .before .before .before .before .before .before .before .before .if1 .left) in
     let times = now (args .times) in
     let words = now (args .words) in
     let sized : Sized times words = record { long = c .before .before .before .before .before .before .before .before .before .before .before .before .before .before .before .before .before .before .time-count .ensures .1; wide = c .before .before .before .before .before .before .before .before .before .before .before .before .before .before .before .before .word-count .ensures .1 } in
@@ -104,7 +105,7 @@ returns-2 c =
     let told = told-quiet packet given (call given) (c .before .quiet-packet .ensures) (c .if2 .taken) in
     let quiet = ap call (sym byte) ∙ told .0 in
     let counted = ap₂ (λ (k b : ℕ). set counters k b) pid (told .1 ∙ ap (quietByte packet) byte) in
-    packet-quiet times words (args .time) packet counters (now (args .memory)) (args .room) (now (args .numbers)) sized right _ quiet counted
+    packet-quiet times words (args .time) packet counters (now (args .memory)) (args .capacity) (now (args .numbers)) sized right _ quiet counted
 
 loud-packet-requires : tie.Need-loud-packet-requires
 unfolding headerOf
@@ -113,7 +114,7 @@ loud-packet-requires c κs =
     let args = start .args in
     let packet = now (args .packet) in
     let counters = now (args .counters) in
-    let right = sizes-right (args .time) packet counters (args .room) (sym (c .before .before .before .before .before .before .before .before .before .before .before .before .before .before .before .before .before .sizes-refusal .ensures) ∙ c .before .before .before .before .before .before .before .before .before .before .before .before .before .before .before .before .if1 .left) in
+    let right = sizes-right (args .time) packet counters (args .capacity) (sym (c .before .before .before .before .before .before .before .before .before .before .before .before .before .before .before .before .before .sizes-refusal .ensures) ∙ c .before .before .before .before .before .before .before .before .before .before .before .before .before .before .before .before .if1 .left) in
     let read = c .before .before .before .before .before .before .before .before .before .before .before .before .before .before .before .read in
     let pid : read .result .pid ≡ pidOf packet = ap (λ (h : Header). h .pid) (read .ensures .0) in
     let byte : getD counters (read .result .pid) 0 ≡ getD counters (pidOf packet) 0 = ap (λ (k : ℕ). getD counters k 0) pid in

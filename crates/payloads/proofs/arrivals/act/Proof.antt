@@ -18,16 +18,16 @@ use Rattle.sections.specs.Rooms.{halfBuilt}
 use Rattle.sections.specs.Outcomes.{eventsOf}
 use Rattle.sections.proofs.Outcome.{the-type}
 use Rattle.calls.specs.Cores.{Held}
-use Rattle.calls.specs.Steps.{absorbedBy}
-use Rattle.payloads.specs.Taking.{held}
-use Rattle.payloads.specs.Parts.{acted}
+use Rattle.calls.specs.Steps.{arrival, absorbedBy}
+use Rattle.payloads.specs.inner.Taking.{held}
+use Rattle.payloads.specs.inner.Parts.{endActs}
 use Rattle.arrays.specs.Lent.{coreIn}
 use Rattle.arrays.proofs.Kept.{moved-none}
 use Rattle.payloads.proofs.arrivals.act.Statement.{statement}
 use Rattle.payloads.proofs.arrivals.act.Tie as tie
 
 -- anything but a good section leaves list and watches as they are
-not-good : (t r pid : ℕ) (x : List ℕ) (h : Held) (o : Outcome) → OneOf (0 ∷ 2 ∷ 3 ∷ []) (tagOf the-type o) → absorbedBy o t r pid x h ≡ record { held = h; events = eventsOf t o }
+not-good : (t r pid : ℕ) (x : List ℕ) (h : Held) (o : Outcome) → OneOf (0 ∷ 2 ∷ 3 ∷ []) (tagOf the-type o) → absorbedBy o (arrival t r pid) x h ≡ record { held = h; events = eventsOf t o }
 not-good t r pid x h Unfinished k = refl
 not-good t r pid x h (Good n) k = absurd (miss (0 ∷ 2 ∷ 3 ∷ []) 1 tt k)
 not-good t r pid x h (Fault f c i) k = refl
@@ -63,8 +63,8 @@ returns c =
     let o = c .before .before .before .before .before .outcome-in in
     let put = c .before .before .put-outcome in
     let x = halfBuilt (now (args .memory)) (args .room) (args .size) in
-    let e : acted (args .time) (args .room) (args .pid) (args .stage) x (held core (now (args .memory))) ≡ record { held = held core (now (args .memory)); events = eventsOf (args .time) (o .result) }
-    = ap (λ z. absorbedBy z (args .time) (args .room) (args .pid) x (held core (now (args .memory)))) (sym (o .ensures)) ∙ not-good (args .time) (args .room) (args .pid) x (held core (now (args .memory))) (o .result) (c .before .before .before .before .match .keys2) in
+    let e : endActs (args .time) (args .room) (args .pid) (args .stage) x (held core (now (args .memory))) ≡ record { held = held core (now (args .memory)); events = eventsOf (args .time) (o .result) }
+    = ap (λ z. absorbedBy z (arrival (args .time) (args .room) (args .pid)) x (held core (now (args .memory)))) (sym (o .ensures)) ∙ not-good (args .time) (args .room) (args .pid) x (held core (now (args .memory))) (o .result) (c .before .before .before .before .match .keys2) in
     (rw e (record { core = refl; memory = refl; next = put .ensures .0; laid = put .ensures .1 }), (moved-none (start .pre .0 .0), start .pre .0 .1 .listed, omega (arith, put .ensures .0, events-most (args .time) (o .result))))
 
 arrive-requires : tie.Need-arrive-requires

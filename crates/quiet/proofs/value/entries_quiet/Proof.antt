@@ -6,7 +6,7 @@ use native.Mathlib.Omega.{arith}
 use lib.ListN.{length, getD, take, drop, length-set}
 use borrow.Author.Tests.{not-true, not-false}
 use Rattle.watches.specs.Tables.{noEntry}
-use Rattle.quiet.specs.Quiet.{entriesQuiet, unmarked}
+use Rattle.quiet.specs.inner.Quiet.{entriesQuiet, unmarked}
 use Rattle.quiet.proofs.Turns.{entries-here, entries-marked, entries-on, entries-end}
 use Rattle.quiet.proofs.value.entries_quiet.Statement.{statement}
 use Rattle.quiet.proofs.value.entries_quiet.Tie as tie

@@ -5,7 +5,7 @@ use mathlib.Core.Path.{_≡_, sym, ap, _∙_}
 use borrow.Author.Tests.{not-true, not-false}
 use Rattle.header.specs.declared.Header.{Header}
 use Rattle.header.specs.Header.{pidOf, headerOf}
-use Rattle.quiet.specs.Quiet.{stateQuiet, countQuiet}
+use Rattle.quiet.specs.inner.Quiet.{stateQuiet, countQuiet}
 use Rattle.quiet.proofs.Turns.{still-loud, now-loud, still-quiet}
 use Rattle.quiet.proofs.value.quiet_value.Statement.{statement}
 use Rattle.quiet.proofs.value.quiet_value.Tie as tie

@@ -5,7 +5,7 @@ use mathlib.Core.Bool.{not, _&&_}
 use lib.Dec.{leb, eqb}
 use borrow.Author.Tests.{leb-true, not-true, not-false}
 use Rattle.lists.proofs.Tests.{and-right}
-use Rattle.quiet.specs.Quiet.{stateQuiet}
+use Rattle.quiet.specs.inner.Quiet.{stateQuiet}
 use Rattle.quiet.proofs.value.state_quiet.Statement.{statement}
 use Rattle.quiet.proofs.value.state_quiet.Tie as tie
 

@@ -6,7 +6,7 @@ use lib.ListN.{replicate}
 use borrow.Author.Tests.{eq-eqb, ne-eqb}
 use Rattle.lists.proofs.Laying.{laid-none, laid-turn}
 use Rattle.events.specs.Events.{numbersOf}
-use Rattle.events.specs.Room.{recordWidth}
+use Rattle.events.specs.Capacity.{recordWidth}
 use Rattle.sections.specs.Rooms.{roomCount}
 use Rattle.calls.specs.Cores.{withHalf}
 use Rattle.arrays.proofs.Kept.{told-then}

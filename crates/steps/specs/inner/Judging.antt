@@ -16,13 +16,13 @@ use lib.ListN.{length}
 use Rattle.events.specs.declared.Event.{Event}
 use Rattle.events.specs.Faults.{noCause}
 use Rattle.events.specs.Events.{eventAt, eventsLaid}
-use Rattle.events.specs.Room.{leastRoom, numberRoom}
+use Rattle.events.specs.Capacity.{leastCapacity, numberCapacity}
 use Rattle.header.specs.Header.{packetSize, pidOf, unitStart, payloadOf}
 use Rattle.sections.specs.Rooms.{memorySize}
 use Rattle.programmes.specs.Listing.{mostListed}
 use Rattle.calls.specs.declared.Core.{Core}
 use Rattle.calls.specs.Sync.{Synced}
-use Rattle.calls.specs.Steps.{Step, sectionsTaken}
+use Rattle.calls.specs.Steps.{arrival, AfterStep, sectionsTaken}
 use Rattle.calls.specs.Sound.{roomsSound}
 use Rattle.calls.specs.Calls.{tableSize}
 use Rattle.calls.specs.Cores.{Held, droppedRoom}
@@ -32,15 +32,15 @@ pub record Ready (c : Core) (m p list : List ℕ) (n most : ℕ) : Type 0 where
   pub whole : length m ≡ memorySize
   pub listed : c .count ≤ mostListed
   pub sound : roomsSound (c .half) m ≡ true
-  pub places : n + most ≤ leastRoom
-  pub numbers : numberRoom ≤ length list
+  pub places : n + most ≤ leastCapacity
+  pub numbers : numberCapacity ≤ length list
 
 pub record Judgeable (c : Core) (p counters m list : List ℕ) (n : ℕ) : Type 0 where
   pub ready : Ready c m p list n 65
   pub table : length counters ≡ tableSize
   pub run : c .run ≤ 4
 
-pub record Done (x : Step) (most : ℕ) (c : Core) (table m before : List ℕ) (n : ℕ) (after : List ℕ) (r : ℕ) : Type 0 where
+pub record Done (x : AfterStep) (most : ℕ) (c : Core) (table m before : List ℕ) (n : ℕ) (after : List ℕ) (r : ℕ) : Type 0 where
   pub core : c ≡ x .held .core
   pub counters : table ≡ x .counters
   pub memory : m ≡ x .held .memory
@@ -58,8 +58,8 @@ pub record CaughtAs (y : Synced) (t pid : ℕ) (c : Core) (on : Bool) (before : 
   pub laid : after ≡ eventsLaid before n (faultEvents t pid (y .faults))
   pub few : r ≤ n + 2
 
-abbrev pub coursed : ℕ → List ℕ → ℕ → Bool → Bool → List ℕ → Held → Step
+abbrev pub coursed : ℕ → List ℕ → ℕ → Bool → Bool → List ℕ → Held → AfterStep
 coursed t p r keep take cs h =
     let g = cond keep h (droppedRoom r h) in
-    let a = sectionsTaken t r (pidOf p) (unitStart p) (payloadOf p) g in
+    let a = sectionsTaken (arrival t r (pidOf p)) (unitStart p) (payloadOf p) g in
     cond take (record { held = a .held; counters = cs; events = a .events }) (record { held = g; counters = cs; events = [] })

@@ -8,7 +8,7 @@ use mathlib.Core.Bool.{true}
 use mathlib.Core.List.{List}
 use Prim.Native.Nat.{ℕ, _+_, _≤_, _<_}
 use lib.ListN.{length}
-use Rattle.events.specs.Room.{leastRoom, numberRoom}
+use Rattle.events.specs.Capacity.{leastCapacity, numberCapacity}
 use Rattle.sections.specs.Rooms.{memorySize, roomCount}
 use Rattle.programmes.specs.Listing.{mostListed}
 use Rattle.calls.specs.declared.Core.{Core}
@@ -24,5 +24,5 @@ pub record Takable (c : Core) (m : List ℕ) (r : ℕ) (s : List ℕ) (n : ℕ) 
   pub listed : c .count ≤ mostListed
   pub sound : roomsSound (c .half) m ≡ true
   pub payload : length s ≤ 184
-  pub places : n + 62 ≤ leastRoom
-  pub numbers : numberRoom ≤ length list
+  pub places : n + 62 ≤ leastCapacity
+  pub numbers : numberCapacity ≤ length list

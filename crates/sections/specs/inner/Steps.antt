@@ -1,5 +1,5 @@
 -- One section step: document 01, "Building sections", a section at a time instead of a byte. The law `chunk` (proofs/Chunks.antt) joins it
--- to the machine of Building.antt. h are the bytes of the section at hand so far, s those that follow.
+-- to the bytes of Building.antt. h are the bytes of the section at hand so far, s those that follow.
 --
 --   takenBy top h s == how many bytes of s go to the section: up to its end, or all of them
 --   laidOf top h n s == what a step does to a section of n bytes h: how many are taken, its length with them, and how far it is

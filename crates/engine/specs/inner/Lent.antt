@@ -10,7 +10,7 @@ use mathlib.Core.List.{List}
 use Rattle.calls.specs.Calls.{Result, answerOf}
 use Rattle.arrays.specs.declared.Reply.{Reply}
 use Rattle.arrays.specs.Replies.{replyOf, timesAfter, wordsAfter}
-use Rattle.engine.specs.Numbers.{Numbered}
+use Rattle.engine.specs.inner.Numbers.{Numbered}
 
 abbrev pub PacketLaid : Result → Reply → (times timesLeft words wordsLeft counters memory before after : List ℕ) → Type 0
 PacketLaid x r times timesLeft words wordsLeft counters memory before after =

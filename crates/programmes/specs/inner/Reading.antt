@@ -4,8 +4,8 @@
 --   numberAt e k == the programme number of the entry k
 --   pidIn e k    == its PID
 --   seenTo e k   == the numbers of the entries before it, the nearest first
---   marked b l   == the list, made bad where b says so
---   added r l    == the list with what one entry adds
+--   badWhere b l   == the list, made bad where b says so
+--   withAddition r l    == the list with what one entry adds
 use Prim.Native.Nat.{ℕ, zero, suc, _+_, _*_}
 use mathlib.Core.Bool.{Bool, cond, _||_}
 use mathlib.Core.List.{List, [], _∷_}
@@ -24,8 +24,8 @@ unfoldable pub seenTo : List ℕ → ℕ → List ℕ
 seenTo e zero = []
 seenTo e (suc k) = numberAt e k ∷ seenTo e k
 
-abbrev pub marked : Bool → Listed → Listed
-marked b l = record { count = l .count; bad = l .bad || b; entries = l .entries }
+abbrev pub badWhere : Bool → Listed → Listed
+badWhere b l = record { count = l .count; bad = l .bad || b; entries = l .entries }
 
-abbrev pub added : Addition → Listed → Listed
-added r l = cond (r .listed) (listedWith (r .entry) (marked (r .bad) l)) (marked (r .bad) l)
+abbrev pub withAddition : Addition → Listed → Listed
+withAddition r l = cond (r .listed) (listedWith (r .entry) (badWhere (r .bad) l)) (badWhere (r .bad) l)

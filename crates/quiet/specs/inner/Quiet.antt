@@ -9,6 +9,7 @@
 --   rowQuiet, rowsQuiet   == that of a watch; of watches one after the other
 --   entryQuiet p t q e    == a listed entry as refusal 5 has it, its watch quiet, on another PID than q
 --   markOf e              == programme numbers are told apart by their remainder of 64: a call is not quiet where two have the same
+--   unmarked              == no remainder is marked
 --   entriesQuiet p t q marks es == listed entries, none with a remainder that is marked or that of another
 --   syncQuiet c           == in sync, with no wrong byte before, at most sixteen programmes listed
 --   latestQuiet p t       == the latest time not above 2^62, the call's not below it

@@ -2,60 +2,48 @@
 -- the next one is laid over it; the law `came-behind` (proofs/Actions.antt) joins that to the sections acting after the whole payload.
 --
 --   cameTo t r pid j h == what a job j in the room r comes to, from the state h: its finished sections act in their order
---   newSections m      == the job of new sections in an empty room of the memory m
---   goingOn m n        == the job of the half-built section of n bytes
---   isStopped md       == the rest of the payload is ignored
 --   isBad g            == section_length breaks the rule
---   acted t r pid g s h == what a section of the bytes s does at its end
+--   endActs t r pid g s h == what a section of the bytes s does at its end
 --   Left               == what the code has left: the core, and the next place for an event
+--   left c n           == these two
 --   finished r n c place == the core c with n half-built bytes in the room r, and the next place for an event
 --   Shown a n list₀ list m g == the code shows a: the events of a are laid in the list from the place n on, the core and the memory are those of a
 --   Went               == what the code has left where a half-built section went on: also the bytes in the room, and whether the rest is ignored
---   Gone t r pid j c .. == the code shows the sections of a job j acting from the core c; the bytes in the room, and whether it is stopped, are the job's
+--   went c g           == what `resume` hands back, with the core
+--   Gone t r pid j c .. == the code shows the sections of a job j acting from the core c; the bytes in the room, and whether the rest is ignored, are
+--                         the job's
 --   Fit c m list       == what a section may act on: section memory whole, at most sixteen listed, half-built sections of the list's places
 --                         within their rooms, places for the least event list
 use mathlib.Core.Path.{_≡_}
 use mathlib.Core.Bool.{Bool, true, false}
-use mathlib.Core.List.{List, []}
+use mathlib.Core.List.{List}
 use Prim.Native.Nat.{ℕ, _+_, _≤_, _<_}
 use lib.ListN.{length, set}
-use Rattle.events.specs.Room.{numberRoom}
+use Rattle.events.specs.Capacity.{numberCapacity}
 use Rattle.events.specs.Events.{eventsLaid}
 use Rattle.sections.specs.declared.Stage.{Stage}
 use Rattle.sections.specs.declared.Stage.the-variants.{More, Bad, Whole}
-use Rattle.sections.specs.Steps.{stepOutcome}
+use Rattle.sections.specs.inner.Steps.{stepOutcome}
 use Rattle.sections.specs.Rooms.{memorySize, roomOfPlace}
-use Rattle.sections.specs.Building.{Mode, going, done, fresh, stopped, Job, begunJob, resumed}
+use Rattle.sections.specs.Building.{Job}
 use Rattle.programmes.specs.Listing.{mostListed}
 use Rattle.programmes.specs.Places.{halfAt}
 use Rattle.calls.specs.declared.Core.{Core}
 use Rattle.calls.specs.Cores.{Held, withHalf}
-use Rattle.calls.specs.Steps.{Absorbed, absorbedBy, absorbedAll, builtIn}
+use Rattle.calls.specs.Steps.{arrival, Absorbed, absorbedBy, absorbedAll, builtIn}
 use Rattle.payloads.specs.declared.Resumed.{Resumed}
-use Rattle.payloads.specs.Taking.{held}
+use Rattle.payloads.specs.inner.Taking.{held}
 
 abbrev pub cameTo : ℕ → ℕ → ℕ → Job → Held → Absorbed
-cameTo t r pid j h = absorbedAll t r pid (j .finished) (builtIn r j h)
-
-abbrev pub newSections : List ℕ → Job
-newSections m = record { mode = fresh; memory = m; half = 0; finished = [] }
-
-abbrev pub goingOn : List ℕ → ℕ → Job
-goingOn m n = resumed (begunJob m n)
-
-abbrev pub isStopped : Mode → Bool
-isStopped going = false
-isStopped done = false
-isStopped fresh = false
-isStopped stopped = true
+cameTo t r pid j h = absorbedAll (arrival t r pid) (j .finished) (builtIn r j h)
 
 abbrev pub isBad : Stage → Bool
 isBad More = false
 isBad Bad = true
 isBad Whole = false
 
-abbrev pub acted : ℕ → ℕ → ℕ → Stage → List ℕ → Held → Absorbed
-acted t r pid g s h = absorbedBy (stepOutcome r pid g s) t r pid s h
+abbrev pub endActs : ℕ → ℕ → ℕ → Stage → List ℕ → Held → Absorbed
+endActs t r pid g s h = absorbedBy (stepOutcome r pid g s) (arrival t r pid) s h
 
 pub record Left : Type 0 where
   pub core : Core
@@ -77,19 +65,19 @@ pub record Went : Type 0 where
   pub core : Core
   pub n : ℕ
   pub half : ℕ
-  pub stopped : Bool
+  pub ignored : Bool
 
 abbrev pub went : Core → Resumed → Went
-went c g = record { core = c; n = g .n; half = g .half; stopped = g .stopped }
+went c g = record { core = c; n = g .n; half = g .half; ignored = g .ignored }
 
 pub record Gone (t r pid : ℕ) (j : Job) (c : Core) (n : ℕ) (list₀ list m : List ℕ) (g : Went) : Type 0 where
-  pub shown : Shown (absorbedAll t r pid (j .finished) (held c (j .memory))) n list₀ list m (left (g .core) (g .n))
+  pub shown : Shown (absorbedAll (arrival t r pid) (j .finished) (held c (j .memory))) n list₀ list m (left (g .core) (g .n))
   pub half : g .half ≡ j .half
-  pub stop : g .stopped ≡ isStopped (j .mode)
+  pub ignored : g .ignored ≡ j .ignored
 
 pub record Fit (c : Core) (m list : List ℕ) : Type 0 where
   pub whole : length m ≡ memorySize
   pub listed : c .count ≤ mostListed
   pub rooms : 5 ≤ length (c .half)
   pub halves : (k : ℕ) → k < mostListed → halfAt (c .half) (roomOfPlace k) ≤ 1024
-  pub numbers : numberRoom ≤ length list
+  pub numbers : numberCapacity ≤ length list
