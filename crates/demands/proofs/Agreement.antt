@@ -1,11 +1,13 @@
--- Demand 3: the two judgements of lateness agree, over any log of accepted calls from an opening, for every watch. Assumes nothing.
+-- Demand 3: the two judgements of lateness agree, over any accepted calls from an opening with refused calls anywhere between, for every watch.
+-- Assumes nothing.
 use mathlib.Core.Path.{_≡_, refl, sym, ap, ap₂, _∙_, subst}
 use mathlib.Core.Bool.{Bool, true, false, cond}
-use mathlib.Core.List.{List, [], _∷_, _++_, map, append-nil, append-assoc}
-use Prim.Native.Nat.{ℕ, zero, suc, _<_, zero-le}
+use mathlib.Core.List.{List, [], _∷_, _++_, map, flatten, append-nil, append-assoc}
+use Prim.Native.Nat.{ℕ, zero, suc, _≤_, _<_, zero-le}
 use native.Mathlib.Omega.{arith}
 use lib.Dec.{eqb}
 use lib.ListN.{length, getD-replicate}
+use Rattle.lists.proofs.Tests.{cond-either}
 use Rattle.lateness.specs.Gaps.{Rising, dueOf, arrives, gaps, lived, Seen, act, live, Ordered, watched, lives, judged, Fresh, viewOf}
 use Rattle.lateness.specs.Logs.{Call, clock, packet, timeOf}
 use Rattle.lateness.proofs.Agree.{agree}
@@ -17,14 +19,17 @@ use Rattle.watches.specs.Tables.{fixedTables, tableOf}
 use Rattle.calls.specs.Cores.{listed, lateOf, opened}
 use Rattle.calls.specs.Steps.{step1}
 use Rattle.calls.specs.Calls.{Result, heldOf}
-use Rattle.demands.specs.Runs.{Given, callOf, afterCall, AllAccepted, opening, Opened}
-use Rattle.demands.specs.Listening.{Listener, Heard, table, page, index, listen1, openedListener}
-use Rattle.demands.specs.Judgements.{Watched, fixed, programme, limitsOf, faultOf, idOf, IsWatched, lateFor, isListed, lateBy, liveLate, actsOfAll, seenBy, watchedFrom, otherLate, isNamed, arrivedAt, arrivalsOf, latestOf}
-use Rattle.demands.proofs.Watches.{found, watchIn}
-use Rattle.demands.proofs.Follows.{listenerOf, Has, Follows, follows-1}
+use Rattle.demands.specs.Runs.{Given, Asked, lending, callOf, afterCall, IsAccepted, along, Each, OwnTable, taken, callsOf, opening, Opened}
+use Rattle.demands.specs.Refused.{Refused}
+use Rattle.demands.specs.Listening.{Listener, Heard, table, page, index, listen1, openedListener, listenerOf}
+use Rattle.demands.specs.Judgements.{Watched, fixed, programme, limitsOf, faultOf, idOf, IsWatched, lateFor, onWatch, lateBy, liveLate, actsOfAll, seenBy, watchedFrom, otherLate, isNamed, arrivedAt, arrivalsOf, latestOf}
+use Rattle.demands.specs.Pages.{found}
+use Rattle.demands.proofs.Watches.{watchIn}
+use Rattle.demands.proofs.Follows.{Has, Follows, follows-1}
 use Rattle.demands.proofs.Late.{stampsOf, lateFor-stamps, late-due, late-unnamed, paired-once, stampsOf-append}
 use Rattle.demands.proofs.Packets.{none-stamps, packet-none-late}
-use Rattle.demands.proofs.Accepted.{acceptedOf, acceptedAfter, call-accepted, after-accepted, entries-accepted, order-accepted, openedGiven, opening-accepted}
+use Rattle.demands.proofs.Accepted.{acceptedOf, acceptedAfter, call-accepted, AcceptedOwn, after-accepted, entries-accepted, order-accepted, openedGiven, opening-accepted}
+use Rattle.demands.proofs.Refusals.{accepted-or-refused, demand-1, each-map, each-taken, along-taken}
 
 -- five fixed tables have gap starts
 abbrev pub Five : Given → Type 0
@@ -34,16 +39,26 @@ five-has : (w : Watched) (g : Given) → IsWatched w → Five g → Has w (g .st
 five-has (fixed k) g h e = omega arith
 five-has (programme n q) g h e = tt
 
+five-after : (g : Given) (c : Call (List ℕ)) → Five g → Five (acceptedAfter g c)
+five-after g (clock t) five = five
+five-after g (packet t p) five = follows-1 (programme 0 0) t p (g .counters) (heldOf (g .state) (g .memory)) tt .keeps ∙ five
+
+pub five-call : (g : Given) (a : Asked) → Five g → Five (afterCall g a)
+five-call g a five =
+    let k = lending g (a .table) in
+    accepted-or-refused g a
+    (λ e. ap (λ (x : Result). length (x .state .core .since)) (call-accepted (a .capacity) k (a .call) e) ∙ five-after k (a .call) five)
+    (λ refused. ap (λ (x : Given). length (x .state .core .since)) (demand-1 g a refused .given) ∙ five)
+
 abbrev pub listenerAt : Given → Listener
 listenerAt g = listenerOf (heldOf (g .state) (g .memory)) (g .counters)
 
 -- the stamps of what is handed over
-abbrev pub stampsBy : Watched → ℕ → Given → Call (List ℕ) → List ℕ
-stampsBy w room g c = cond (isListed w (g .state .core)) (stampsOf (faultOf w) (idOf w) (callOf room g c .events)) []
+abbrev pub stampsBy : Watched → Given → Asked → List ℕ
+stampsBy w g a = cond (onWatch w (g .state .core)) (stampsOf (faultOf w) (idOf w) (callOf g a .events)) []
 
-abbrev liveStamps : Watched → ℕ → Given → List (Call (List ℕ)) → List ℕ
-liveStamps w room g [] = []
-liveStamps w room g (c ∷ cs) = stampsBy w room g c ++ liveStamps w room (afterCall room g c) cs
+abbrev liveStamps : Watched → Given → List Asked → List ℕ
+liveStamps w g log = flatten (along (stampsBy w) g log)
 
 abbrev pub stamped : Watched → List ℕ → List Event
 stamped w ss = map (λ x. eventAt x (faultOf w) late (idOf w)) ss
@@ -52,19 +67,27 @@ stamped-append : (w : Watched) (xs ys : List ℕ) → stamped w (xs ++ ys) ≡ s
 stamped-append w [] ys = refl
 stamped-append w (x ∷ xs) ys = ap (λ z. eventAt x (faultOf w) late (idOf w) ∷ z) (stamped-append w xs ys)
 
-lateBy-stamps : (w : Watched) (room : ℕ) (g : Given) (c : Call (List ℕ)) → lateBy w room g c ≡ stamped w (stampsBy w room g c)
-lateBy-stamps w room g c = go (isListed w (g .state .core))
+lateBy-stamps : (w : Watched) (g : Given) (a : Asked) → lateBy w g a ≡ stamped w (stampsBy w g a)
+lateBy-stamps w g a = go (onWatch w (g .state .core))
   where
     go : (b : Bool)
-        → cond b (lateFor (faultOf w) (idOf w) (callOf room g c .events)) [] ≡ stamped w (cond b (stampsOf (faultOf w) (idOf w) (callOf room g c .events)) [])
-    go true = lateFor-stamps (faultOf w) (idOf w) (callOf room g c .events)
+        → cond b (lateFor (faultOf w) (idOf w) (callOf g a .events)) [] ≡ stamped w (cond b (stampsOf (faultOf w) (idOf w) (callOf g a .events)) [])
+    go true = lateFor-stamps (faultOf w) (idOf w) (callOf g a .events)
     go false = refl
 
-liveLate-stamps : (w : Watched) (room : ℕ) (cs : List (Call (List ℕ))) (g : Given) → liveLate w room g cs ≡ stamped w (liveStamps w room g cs)
-liveLate-stamps w room [] g = refl
-liveLate-stamps w room (c ∷ cs) g =
-    ap₂ (λ x y. x ++ y) (lateBy-stamps w room g c) (liveLate-stamps w room cs (afterCall room g c))
-    ∙ sym (stamped-append w (stampsBy w room g c) (liveStamps w room (afterCall room g c) cs))
+liveLate-stamps : (w : Watched) (log : List Asked) (g : Given) → liveLate w g log ≡ stamped w (liveStamps w g log)
+unfolding flatten
+liveLate-stamps w [] g = refl
+liveLate-stamps w (a ∷ log) g =
+    ap₂ (λ x y. x ++ y) (lateBy-stamps w g a) (liveLate-stamps w log (afterCall g a))
+    ∙ sym (stamped-append w (stampsBy w g a) (liveStamps w (afterCall g a) log))
+
+-- a refused call hands over nothing
+pub lateBy-refused : (w : Watched) (g : Given) (a : Asked) → Refused g a → lateBy w g a ≡ []
+unfolding lateFor
+lateBy-refused w g a refused =
+    ap (λ es. cond (onWatch w (g .state .core)) (lateFor (faultOf w) (idOf w) es) []) (demand-1 g a refused .silent)
+    ∙ cond-either (λ (x : List Event). x ≡ []) (onWatch w (g .state .core)) [] [] refl refl
 
 -- a packet's own events are no late events
 accepted-stamps : (f i : ℕ) (g : Given) (c : Call (List ℕ))
@@ -79,104 +102,117 @@ accepted-stamps f i g (packet t p) =
 
 module _ (w : Watched) (is : IsWatched w) where
   -- ONE CALL: its late events with the watch's name are what falls due
-  pub call-stamps : (room : ℕ) (g : Given) (c : Call (List ℕ)) → Five g → callOf room g c .refusal ≡ 0
-      → stampsBy w room g c ≡ dueOf (limitsOf w) (watchIn w (g .state .core)) (g .state .latest) (timeOf c)
-  call-stamps room g c five e =
-      ap (λ (x : Result). cond (isListed w (g .state .core)) (stampsOf (faultOf w) (idOf w) (x .events)) []) (call-accepted room g c e)
-      ∙ ap (λ z. cond (isListed w (g .state .core)) z []) (accepted-stamps (faultOf w) (idOf w) g c)
-      ∙ late-due w (g .state .latest) (timeOf c) (g .state .core) is five (entries-accepted room g c e)
+  pub call-stamps : (g : Given) (a : Asked) → Five g → IsAccepted g a
+      → stampsBy w g a ≡ dueOf (limitsOf w) (watchIn w (g .state .core)) (g .state .latest) (timeOf (a .call))
+  call-stamps g a five e =
+      let k = lending g (a .table) in
+      ap (λ (x : Result). cond (onWatch w (g .state .core)) (stampsOf (faultOf w) (idOf w) (x .events)) []) (call-accepted (a .capacity) k (a .call) e)
+      ∙ ap (λ z. cond (onWatch w (g .state .core)) z []) (accepted-stamps (faultOf w) (idOf w) k (a .call))
+      ∙ late-due w (g .state .latest) (timeOf (a .call)) (g .state .core) is five (entries-accepted g a e)
 
-  pub call-late : (room : ℕ) (g : Given) (c : Call (List ℕ)) → Five g → callOf room g c .refusal ≡ 0
-      → lateBy w room g c ≡ stamped w (dueOf (limitsOf w) (watchIn w (g .state .core)) (g .state .latest) (timeOf c))
-  call-late room g c five e = lateBy-stamps w room g c ∙ ap (stamped w) (call-stamps room g c five e)
+  pub call-late : (g : Given) (a : Asked) → Five g → IsAccepted g a
+      → lateBy w g a ≡ stamped w (dueOf (limitsOf w) (watchIn w (g .state .core)) (g .state .latest) (timeOf (a .call)))
+  call-late g a five e = lateBy-stamps w g a ∙ ap (stamped w) (call-stamps g a five e)
 
   follows : (g : Given) (t : ℕ) (p : List ℕ) → Five g
       → Follows w t (g .state .core) (step1 t p (g .counters) (heldOf (g .state) (g .memory)) .held)
       (step1 t p (g .counters) (heldOf (g .state) (g .memory)) .counters) (listen1 p (listenerAt g))
   follows g t p five = follows-1 w t p (g .counters) (heldOf (g .state) (g .memory)) (five-has w g is five)
 
-  five-after : (g : Given) (c : Call (List ℕ)) → Five g → Five (acceptedAfter g c)
-  five-after g (clock t) five = five
-  five-after g (packet t p) five = follows g t p five .keeps ∙ five
-
   -- A LOG: what it hands over of the watch is the live judgement of what the listener hears
-  live-log : (room : ℕ) (cs : List (Call (List ℕ))) (g : Given) → Five g → AllAccepted room g cs
-      → liveStamps w room g cs ≡ live (limitsOf w) (g .state .latest) (watchIn w (g .state .core)) (seenBy w (listenerAt g) cs)
-  live-log room [] g five a = refl
-  live-log room (c ∷ cs) g five a =
-      ap₂ (λ x y. x ++ y) (call-stamps room g c five (a .0))
-      (ap (λ x. liveStamps w room x cs) (after-accepted room g c (a .0))
-      ∙ live-log room cs (acceptedAfter g c) (five-after g c five) (subst (λ x. AllAccepted room x cs) (after-accepted room g c (a .0)) (a .1)))
-      ∙ heard c
+  live-log : (log : List Asked) (g : Given) → Five g → Each AcceptedOwn g log
+      → liveStamps w g log ≡ live (limitsOf w) (g .state .latest) (watchIn w (g .state .core)) (seenBy w (listenerAt g) (callsOf log))
+  unfolding flatten
+  live-log [] g five h = refl
+  live-log (a ∷ log) g five h =
+      let next = after-accepted g a (h .0) in
+      ap₂ (λ x y. x ++ y) (call-stamps g a five (h .0 .0))
+      (ap (λ x. liveStamps w x log) next
+      ∙ live-log log (acceptedAfter g (a .call)) (five-after g (a .call) five) (subst (λ x. Each AcceptedOwn x log) next (h .1)))
+      ∙ heard (a .call)
     where
       heard : (d : Call (List ℕ))
           → dueOf (limitsOf w) (watchIn w (g .state .core)) (g .state .latest) (timeOf d)
-          ++ live (limitsOf w) (acceptedAfter g d .state .latest) (watchIn w (acceptedAfter g d .state .core)) (seenBy w (listenerAt (acceptedAfter g d)) cs)
-          ≡ live (limitsOf w) (g .state .latest) (watchIn w (g .state .core)) (seenBy w (listenerAt g) (d ∷ cs))
+          ++ live (limitsOf w) (acceptedAfter g d .state .latest) (watchIn w (acceptedAfter g d .state .core)) (seenBy w (listenerAt (acceptedAfter g d)) (callsOf log))
+          ≡ live (limitsOf w) (g .state .latest) (watchIn w (g .state .core)) (seenBy w (listenerAt g) (d ∷ callsOf log))
       heard (clock t) = refl
       heard (packet t p) =
           let f = follows g t p five in
           let x = listen1 p (listenerAt g) in
           ap (λ z. dueOf (limitsOf w) (watchIn w (g .state .core)) (g .state .latest) t ++ z)
-          (ap₂ (λ v l. live (limitsOf w) t v (seenBy w l cs)) (f .moves) (sym (f .same))
-          ∙ sym (live-acts (limitsOf w) t (actsOfAll w (x .heard)) (watchIn w (g .state .core)) (seenBy w (x .listener) cs)))
+          (ap₂ (λ v l. live (limitsOf w) t v (seenBy w l (callsOf log))) (f .moves) (sym (f .same))
+          ∙ sym (live-acts (limitsOf w) t (actsOfAll w (x .heard)) (watchIn w (g .state .core)) (seenBy w (x .listener) (callsOf log))))
 
   -- times never fall
-  log-ordered : (room : ℕ) (cs : List (Call (List ℕ))) (g : Given) (l : Listener) → AllAccepted room g cs → Ordered (g .state .latest) (seenBy w l cs)
-  log-ordered room [] g l a = tt
-  log-ordered room (clock t ∷ cs) g l a = (
-    order-accepted room g (clock t) (a .0),
-    log-ordered room cs (acceptedAfter g (clock t)) l (subst (λ x. AllAccepted room x cs) (after-accepted room g (clock t) (a .0)) (a .1)),
-  )
-  log-ordered room (packet t p ∷ cs) g l a = (
-    order-accepted room g (packet t p) (a .0),
-    ordered-acts t (actsOfAll w (listen1 p l .heard)) (seenBy w (listen1 p l .listener) cs)
-        (log-ordered room cs (acceptedAfter g (packet t p)) (listen1 p l .listener) (subst (λ x. AllAccepted room x cs) (after-accepted room g (packet t p) (a .0)) (a .1))),
-  )
+  log-ordered : (log : List Asked) (g : Given) (l : Listener) → Each AcceptedOwn g log → Ordered (g .state .latest) (seenBy w l (callsOf log))
+  log-ordered [] g l h = tt
+  log-ordered (a ∷ log) g l h =
+      go (a .call) (order-accepted g a (h .0 .0))
+      (λ k. log-ordered log (acceptedAfter g (a .call)) k (subst (λ x. Each AcceptedOwn x log) (after-accepted g a (h .0)) (h .1)))
+    where
+      go : (c : Call (List ℕ)) → g .state .latest ≤ timeOf c
+          → ((k : Listener) → Ordered (acceptedAfter g c .state .latest) (seenBy w k (callsOf log))) → Ordered (g .state .latest) (seenBy w l (c ∷ callsOf log))
+      go (clock t) e ih = (e, ih l)
+      go (packet t p) e ih = (
+        e,
+        ordered-acts t (actsOfAll w (listen1 p l .heard)) (seenBy w (listen1 p l .listener) (callsOf log)) (ih (listen1 p l .listener)),
+      )
 
-rising-table : (k : ℕ) → Rising (tableOf k .limits)
-rising-table zero = (zero-le, tt)
-rising-table (suc zero) = (zero-le, tt)
-rising-table (suc (suc zero)) = (zero-le, tt)
-rising-table (suc (suc (suc zero))) = (zero-le, tt)
-rising-table (suc (suc (suc (suc zero)))) = (zero-le, tt)
-rising-table (suc (suc (suc (suc (suc k))))) = (zero-le, tt)
+-- each watch has one limit
+table-limit : (k : ℕ) → (l : ℕ) × (tableOf k .limits ≡ l ∷ [])
+table-limit zero = (_, refl)
+table-limit (suc zero) = (_, refl)
+table-limit (suc (suc zero)) = (_, refl)
+table-limit (suc (suc (suc zero))) = (_, refl)
+table-limit (suc (suc (suc (suc zero)))) = (_, refl)
+table-limit (suc (suc (suc (suc (suc k))))) = (_, refl)
+
+pub one-limit : (w : Watched) → (l : ℕ) × (limitsOf w ≡ l ∷ [])
+one-limit (fixed k) = table-limit k
+one-limit (programme n q) = (_, refl)
 
 rising : (w : Watched) → Rising (limitsOf w)
-rising (fixed k) = rising-table k
-rising (programme n q) = (zero-le, tt)
+rising w = subst Rising (sym (one-limit w .1)) (zero-le, tt)
 
 opened-watch : (w : Watched) (t : ℕ) → IsWatched w → (Fresh t (watchIn w (opened t))) × (viewOf (watchIn w (opened t)) ≡ watchedFrom w t)
 unfolding found
 opened-watch (fixed k) t h = (getD-replicate 5 k t 0 h, ap (λ s. watched s []) (getD-replicate 5 k t 0 h))
 opened-watch (programme n q) t h = (tt, refl)
 
+-- the accepted calls of a log alone: each is accepted, and takes the log's own counter table
+pub own-taken : (log : List Asked) (g : Given) → OwnTable g log → Each AcceptedOwn g (taken g log)
+own-taken log g owned = each-taken AcceptedOwn log g (each-map (λ k a h e. (e, h e)) log g owned)
+
 -- DEMAND 3
-pub demand-3 : (w : Watched) → IsWatched w → (room t : ℕ) (counters m : List ℕ) (cs : List (Call (List ℕ))) → Opened t counters m
-    → AllAccepted room (opening t counters m) cs → liveLate w room (opening t counters m) cs ≡ otherLate w t m cs
-demand-3 w is room t counters m cs o a =
-    let begun : opening t counters m ≡ openedGiven t m = opening-accepted t counters m (o .accepted) in
-    let all : AllAccepted room (openedGiven t m) cs = subst (λ x. AllAccepted room x cs) begun a in
+pub demand-3 : (w : Watched) → IsWatched w → (t : ℕ) (counters m : List ℕ) (log : List Asked) → Opened t counters m
+    → OwnTable (opening t counters m) log → liveLate w (opening t counters m) log ≡ otherLate w t m (callsOf (taken (opening t counters m) log))
+demand-3 w is t counters m log o owned =
+    let g = opening t counters m in
+    let calls = callsOf (taken g log) in
+    let begun : g ≡ openedGiven t m = opening-accepted t counters m (o .accepted) in
+    let each : Each AcceptedOwn (openedGiven t m) (taken g log) = subst (λ x. Each AcceptedOwn x (taken g log)) begun (own-taken log g owned) in
     let fresh = opened-watch w t is in
-    ap (λ x. liveLate w room x cs) begun
-    ∙ liveLate-stamps w room cs (openedGiven t m)
+    along-taken (lateBy w) (lateBy-refused w) log g
+    ∙ ap (λ x. liveLate w x (taken g log)) begun
+    ∙ liveLate-stamps w (taken g log) (openedGiven t m)
     ∙ ap (stamped w)
-    (live-log w is room cs (openedGiven t m) refl all
-    ∙ agree (limitsOf w) (rising w) (seenBy w (openedListener m) cs) t (watchIn w (opened t)) (fresh .0) (log-ordered w is room cs (openedGiven t m) (openedListener m) all)
-    ∙ ap (λ v. judged (limitsOf w) (lives t v (seenBy w (openedListener m) cs))) (fresh .1))
+    (live-log w is (taken g log) (openedGiven t m) refl each
+    ∙ agree (limitsOf w) (rising w) (seenBy w (openedListener m) calls) t (watchIn w (opened t)) (fresh .0) (log-ordered w is (taken g log) (openedGiven t m) (openedListener m) each)
+    ∙ ap (λ v. judged (limitsOf w) (lives t v (seenBy w (openedListener m) calls))) (fresh .1))
 
 -- NO OTHER LATE EVENT: one of a name that no watch has is handed over by no call
-pub no-other-late : (f i room : ℕ) (g : Given) (c : Call (List ℕ)) → callOf room g c .refusal ≡ 0 → isNamed f i (g .state .core) ≡ false
-    → lateFor f i (callOf room g c .events) ≡ []
-no-other-late f i room g c e h =
-    ap (λ (x : Result). lateFor f i (x .events)) (call-accepted room g c e)
-    ∙ lateFor-stamps f i (acceptedOf g c .events)
-    ∙ ap (map (λ x. eventAt x f late i)) (accepted-stamps f i g c ∙ late-unnamed f i (g .state .latest) (timeOf c) (g .state .core) h)
+pub no-other-late : (f i : ℕ) (g : Given) (a : Asked) → IsAccepted g a → isNamed f i (g .state .core) ≡ false
+    → lateFor f i (callOf g a .events) ≡ []
+no-other-late f i g a e h =
+    let k = lending g (a .table) in
+    ap (λ (x : Result). lateFor f i (x .events)) (call-accepted (a .capacity) k (a .call) e)
+    ∙ lateFor-stamps f i (acceptedOf k (a .call) .events)
+    ∙ ap (map (λ x. eventAt x f late i)) (accepted-stamps f i k (a .call) ∙ late-unnamed f i (g .state .latest) (timeOf (a .call)) (g .state .core) h)
 
 -- ONE WATCH TO A NAME: where a call is accepted, a listed number has one PID
-pub one-watch : (n q r room : ℕ) (g : Given) (c : Call (List ℕ)) → callOf room g c .refusal ≡ 0
-    → isListed (programme n q) (g .state .core) ≡ true → isListed (programme n r) (g .state .core) ≡ true → q ≡ r
-one-watch n q r room g c e = paired-once n q r (listed (g .state .core)) (entries-accepted room g c e)
+pub one-watch : (n q r : ℕ) (g : Given) (a : Asked) → IsAccepted g a
+    → onWatch (programme n q) (g .state .core) ≡ true → onWatch (programme n r) (g .state .core) ≡ true → q ≡ r
+one-watch n q r g a e = paired-once n q r (listed (g .state .core)) (entries-accepted g a e)
 
 -- A FIXED TABLE has one life: from the opening, with the arrivals of its good sections, to the latest accepted time
 arrived-life : (k t b : ℕ) (hs : List Heard) (ar : List ℕ) (os : List Seen)
@@ -202,12 +238,15 @@ fixed-life k b (packet t p ∷ cs) s l ar =
     ∙ fixed-life k b cs t (listen1 p l .listener) (ar ++ arrivedAt k t (listen1 p l .heard))
     ∙ ap (λ z. lived b z (latestOf t cs) ∷ []) (append-assoc ar (arrivedAt k t (listen1 p l .heard)) (arrivalsOf k (listen1 p l .listener) cs))
 
-pub demand-3-fixed : (k : ℕ) → k < length fixedTables → (room t : ℕ) (counters m : List ℕ) (cs : List (Call (List ℕ))) → Opened t counters m
-    → AllAccepted room (opening t counters m) cs
-    → liveLate (fixed k) room (opening t counters m) cs
-    ≡ map (λ x. eventAt x (tableOf k .fault) late (tableOf k .pid)) (gaps (tableOf k .limits) t (arrivalsOf k (openedListener m) cs) (latestOf t cs))
-demand-3-fixed k h room t counters m cs o a =
-    demand-3 (fixed k) h room t counters m cs o a
+pub demand-3-fixed : (k : ℕ) → k < length fixedTables → (t : ℕ) (counters m : List ℕ) (log : List Asked) → Opened t counters m
+    → OwnTable (opening t counters m) log
+    → liveLate (fixed k) (opening t counters m) log
+    ≡ map (λ x. eventAt x (tableOf k .fault) late (tableOf k .pid))
+    (gaps (tableOf k .limits) t (arrivalsOf k (openedListener m) (callsOf (taken (opening t counters m) log)))
+    (latestOf t (callsOf (taken (opening t counters m) log))))
+demand-3-fixed k h t counters m log o owned =
+    let calls = callsOf (taken (opening t counters m) log) in
+    demand-3 (fixed k) h t counters m log o owned
     ∙ ap (stamped (fixed k))
-    (ap (judged (tableOf k .limits)) (fixed-life k t cs t (openedListener m) [])
-    ∙ append-nil (gaps (tableOf k .limits) t (arrivalsOf k (openedListener m) cs) (latestOf t cs)))
+    (ap (judged (tableOf k .limits)) (fixed-life k t calls t (openedListener m) [])
+    ∙ append-nil (gaps (tableOf k .limits) t (arrivalsOf k (openedListener m) calls) (latestOf t calls)))

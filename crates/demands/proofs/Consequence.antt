@@ -1,9 +1,9 @@
 -- The consequence of document 01, "Watches and lateness": from an opening, with no wrong sync byte in the log, replacing every packet of other PIDs
--- by a clock call at the same time leaves a watch's late events the same, call by call; and the calls of the replaced log are accepted. Once over
--- the set of kept PIDs. Assumes nothing.
+-- by a clock call at the same time leaves a watch's late events the same, call by call; and the replaced calls are accepted. Refused calls stand
+-- anywhere in both logs. Once over the set of kept PIDs. Assumes nothing.
 use mathlib.Core.Path.{_≡_, refl, sym, ap, ap₂, _∙_, subst}
 use mathlib.Core.Bool.{Bool, true, false, cond, _&&_, _||_}
-use mathlib.Core.List.{List, [], _∷_, _++_}
+use mathlib.Core.List.{List, [], _∷_, flatten}
 use Prim.Native.Nat.{ℕ, _≤_, _<_}
 use native.Mathlib.Omega.{arith}
 use lib.Dec.{eqb, ltb}
@@ -14,7 +14,6 @@ use Rattle.lists.proofs.Tests.{Order, below, from, order}
 use Rattle.lists.proofs.Table.{passes-at}
 use Rattle.lateness.specs.Gaps.{Watch, on, dueOf}
 use Rattle.lateness.specs.Logs.{Call, clock, packet, timeOf, orClock}
-use Rattle.events.specs.declared.Event.{Event}
 use Rattle.watches.specs.declared.Entry.{Entry}
 use Rattle.watches.specs.Tables.{fixedTables, tableOf, patPid, latestTime, noEntry}
 use Rattle.header.specs.Header.{pidOf}
@@ -24,19 +23,21 @@ use Rattle.sections.specs.Section.{stageOf, isMore}
 use Rattle.sections.proofs.Stages.{stage-few}
 use Rattle.programmes.specs.Listing.{isPair, mostListed}
 use Rattle.calls.specs.Cores.{fixedRoom}
-use Rattle.calls.specs.Calls.{heldOf, tableSize}
+use Rattle.calls.specs.Calls.{Result, heldOf, tableSize}
 use Rattle.calls.proofs.Accepted.{open-accepted}
-use Rattle.demands.specs.Runs.{Given, callOf, afterCall, AllAccepted, opening, Opened}
-use Rattle.demands.specs.Judgements.{Watched, fixed, programme, limitsOf, IsWatched, lateBy, liveLate}
-use Rattle.demands.specs.Others.{replaced, NoWrongSync, KeptFor, onlyPid, pidAndIndex, lateEach}
-use Rattle.demands.proofs.Watches.{found, watchIn}
-use Rattle.demands.proofs.Accepted.{acceptedAfter, after-accepted, openedGiven, opening-accepted}
-use Rattle.demands.proofs.Agreement.{stamped, call-late}
+use Rattle.demands.specs.Runs.{Given, callGiven, Lent, own, other, Asked, afterCall, TakesOwn, Each, AllAccepted, OwnTable, taken, callsOf, opening, Opened}
+use Rattle.demands.specs.Judgements.{Watched, fixed, programme, limitsOf, IsWatched, lateBy, lateEach, liveLate, otherLate}
+use Rattle.demands.specs.Others.{replacedCall, replacedIn, replaced, RightSync, NoWrongSync, KeptFor, onlyPid, pidAndIndex, Quieter, Alone}
+use Rattle.demands.specs.Pages.{found}
+use Rattle.demands.proofs.Watches.{watchIn}
+use Rattle.demands.proofs.Accepted.{acceptedAfter, AcceptedOwn, call-own, after-accepted, openedGiven, opening-accepted}
+use Rattle.demands.proofs.Refusals.{each-map, each-both, each-taken, taken-all, along-taken}
+use Rattle.demands.proofs.Agreement.{stamped, call-late, lateBy-refused, own-taken, demand-3}
 use Rattle.demands.proofs.OthersLists.{Alikes, none, next}
 use Rattle.demands.proofs.OthersPids.{Shaped, IsFixed}
 use Rattle.demands.proofs.OthersAlike.{alike-itself}
 use Rattle.calls.proofs.Known.{KnownBytes}
-use Rattle.demands.proofs.OthersBeside.{replacedCall, RightIn, followed, followed-fixed, followed-listed, Beside, accepted-beside, after-beside}
+use Rattle.demands.proofs.OthersBeside.{followed, followed-fixed, followed-listed, Beside, accepted-beside, after-beside}
 
 -- AN OPENING is beside itself
 opened-shaped : (t : ℕ) (m : List ℕ) → t ≤ latestTime → length m ≡ memorySize → Shaped (heldOf (openedGiven t m .state) m)
@@ -90,14 +91,14 @@ fixed-pids k h =
 
 found-alike : (mine : ℕ → Bool) (n q : ℕ) → mine q ≡ true → {es ds : List Entry} → Alikes mine es ds → found n q es ≡ found n q ds
 unfolding found
-found-alike mine n q own none = refl
-found-alike mine n q own (next {e} {d} {es} {ds} a z) =
+found-alike mine n q kept none = refl
+found-alike mine n q kept (next {e} {d} {es} {ds} a z) =
     ap₂ (λ (x y : ℕ). cond (eqb x n && eqb y q) (on (e .since)) (found n q es)) (a .number) (a .pid)
-    ∙ ap (λ (v : Watch). cond (isPair n q d) (on (e .since)) v) (found-alike mine n q own z)
+    ∙ ap (λ (v : Watch). cond (isPair n q d) (on (e .since)) v) (found-alike mine n q kept z)
     ∙ go (eqb (d .number) n) (eqb (d .pid) q) refl
   where
     go : (x y : Bool) → eqb (d .pid) q ≡ y → cond (x && y) (on (e .since)) (found n q ds) ≡ cond (x && y) (on (d .since)) (found n q ds)
-    go true true h = ap on (a .since (ap mine (a .pid ∙ eqb-true (d .pid) q h) ∙ own))
+    go true true h = ap on (a .since (ap mine (a .pid ∙ eqb-true (d .pid) q h) ∙ kept))
     go true false h = refl
     go false y h = refl
 
@@ -108,107 +109,114 @@ module _ (keep : ℕ → Bool) where
       found-alike (followed keep) n q (followed-listed keep q (kept .0) (kept .1)) (b .alike .held .lists (followed-listed keep patPid (kept .1) (kept .1)))
 
   -- THE REPLACED LOG, call by call
-  replaced-turn : (c : Call (List ℕ)) (cs : List (Call (List ℕ))) → replaced keep (c ∷ cs) ≡ replacedCall keep c ∷ replaced keep cs
-  replaced-turn (clock t) cs = refl
-  replaced-turn (packet t p) cs = refl
+  own-replaced : (c : Call (List ℕ)) (l : Lent) → TakesOwn c l → TakesOwn (replacedCall keep c) l
+  own-replaced (clock t) l h = tt
+  own-replaced (packet t p) own h = go (keep (pidOf p))
+    where
+      go : (x : Bool) → TakesOwn (orClock x t p) own
+      go true = tt
+      go false = tt
+  own-replaced (packet t p) (other foreign) h = absurd h
 
-  right-first : (c : Call (List ℕ)) (cs : List (Call (List ℕ))) → NoWrongSync (c ∷ cs) → RightIn c × NoWrongSync cs
-  right-first (clock t) cs r = (tt, r)
-  right-first (packet t p) cs r = r
+  accepted-own : (g k : Given) (a : Asked) → Beside keep g k → AcceptedOwn g a → AcceptedOwn k (replacedIn keep a)
+  accepted-own g k a b h =
+      let mine = own-replaced (a .call) (a .table) (h .1) in
+      let number : callGiven (a .capacity) g (a .call) .refusal ≡ 0 = ap (λ (x : Result). x .refusal) (sym (call-own g a (h .1))) ∙ h .0 in
+      (ap (λ (x : Result). x .refusal) (call-own k (replacedIn keep a) mine) ∙ accepted-beside keep g k b (a .capacity) (a .call) number, mine)
 
-  module _ (room : ℕ) where
-    -- the two logs go on side by side
-    next-beside : (g k : Given) (c : Call (List ℕ)) → Beside keep g k → callOf room g c .refusal ≡ 0 → RightIn c
-        → Beside keep (afterCall room g c) (afterCall room k (replacedCall keep c))
-    next-beside g k c b e right =
-        subst (λ (x : Given). Beside keep x (afterCall room k (replacedCall keep c))) (sym (after-accepted room g c e))
-        (subst (λ (x : Given). Beside keep (acceptedAfter g c) x) (sym (after-accepted room k (replacedCall keep c) (accepted-beside keep g k b room c e)))
-        (after-beside keep g k b room c e right))
+  -- the two logs go on side by side
+  abbrev Rightly : Given → Asked → Type 0
+  Rightly g a = AcceptedOwn g a × RightSync (a .call)
 
-    all-beside : (cs : List (Call (List ℕ))) (g k : Given) → Beside keep g k → NoWrongSync cs → AllAccepted room g cs → AllAccepted room k (replaced keep cs)
-    all-beside [] g k b r a = tt
-    all-beside (c ∷ cs) g k b r a =
-        let right = right-first c cs r in
-        subst (AllAccepted room k) (sym (replaced-turn c cs)) (
-          accepted-beside keep g k b room c (a .0),
-          all-beside cs (afterCall room g c) (afterCall room k (replacedCall keep c)) (next-beside g k c b (a .0) (right .0)) (right .1) (a .1),
-        )
+  next-beside : (g k : Given) (a : Asked) → Beside keep g k → Rightly g a → Beside keep (afterCall g a) (afterCall k (replacedIn keep a))
+  next-beside g k a b h =
+      subst (λ (x : Given). Beside keep x (afterCall k (replacedIn keep a))) (sym (after-accepted g a (h .0)))
+      (subst (λ (x : Given). Beside keep (acceptedAfter g (a .call)) x) (sym (after-accepted k (replacedIn keep a) (accepted-own g k a b (h .0))))
+      (after-beside keep g k b (a .capacity) (a .call) (ap (λ (x : Result). x .refusal) (sym (call-own g a (h .0 .1))) ∙ h .0 .0) (h .1)))
 
-    module _ (w : Watched) (is : IsWatched w) (kept : KeptFor w keep) where
-      time-replaced : (c : Call (List ℕ)) → timeOf (replacedCall keep c) ≡ timeOf c
-      time-replaced (clock t) = refl
-      time-replaced (packet t p) = go (keep (pidOf p))
-        where
-          go : (x : Bool) → timeOf (orClock x t p) ≡ t
-          go true = refl
-          go false = refl
+  each-own : (log : List Asked) (g k : Given) → Beside keep g k → Each Rightly g log → Each AcceptedOwn k (replaced keep log)
+  each-own [] g k b h = tt
+  each-own (a ∷ log) g k b h = (
+    accepted-own g k a b (h .0 .0),
+    each-own log (afterCall g a) (afterCall k (replacedIn keep a)) (next-beside g k a b (h .0)) (h .1),
+  )
 
-      late-beside : (g k : Given) (c : Call (List ℕ)) → Beside keep g k → callOf room g c .refusal ≡ 0
-          → lateBy w room g c ≡ lateBy w room k (replacedCall keep c)
-      late-beside g k c b e =
-          call-late w is room g c (b .alike .held .left .since) e
-          ∙ ap (λ v. stamped w (dueOf (limitsOf w) v (g .state .latest) (timeOf c))) (watch-beside w is kept g k b)
-          ∙ ap₂ (λ p t. stamped w (dueOf (limitsOf w) (watchIn w (k .state .core)) p t)) (b .latest) (sym (time-replaced c))
-          ∙ sym (call-late w is room k (replacedCall keep c) (b .alike .held .right .since) (accepted-beside keep g k b room c e))
+  module _ (w : Watched) (is : IsWatched w) (kept : KeptFor w keep) where
+    time-replaced : (c : Call (List ℕ)) → timeOf (replacedCall keep c) ≡ timeOf c
+    time-replaced (clock t) = refl
+    time-replaced (packet t p) = go (keep (pidOf p))
+      where
+        go : (x : Bool) → timeOf (orClock x t p) ≡ t
+        go true = refl
+        go false = refl
 
-      each-beside : (cs : List (Call (List ℕ))) (g k : Given) → Beside keep g k → NoWrongSync cs → AllAccepted room g cs
-          → lateEach w room g cs ≡ lateEach w room k (replaced keep cs)
-      each-beside [] g k b r a = refl
-      each-beside (c ∷ cs) g k b r a =
-          let right = right-first c cs r in
-          ap₂ (λ x y. x ∷ y) (late-beside g k c b (a .0))
-          (each-beside cs (afterCall room g c) (afterCall room k (replacedCall keep c)) (next-beside g k c b (a .0) (right .0)) (right .1) (a .1))
-          ∙ ap (lateEach w room k) (sym (replaced-turn c cs))
+    late-beside : (g k : Given) (a : Asked) → Beside keep g k → AcceptedOwn g a → lateBy w g a ≡ lateBy w k (replacedIn keep a)
+    late-beside g k a b h =
+        call-late w is g a (b .alike .held .left .since) (h .0)
+        ∙ ap (λ v. stamped w (dueOf (limitsOf w) v (g .state .latest) (timeOf (a .call)))) (watch-beside w is kept g k b)
+        ∙ ap₂ (λ p t. stamped w (dueOf (limitsOf w) (watchIn w (k .state .core)) p t)) (b .latest) (sym (time-replaced (a .call)))
+        ∙ sym (call-late w is k (replacedIn keep a) (b .alike .held .right .since) (accepted-own g k a b h .0))
 
--- all late events of a watch, from those of each call
-abbrev joined : List (List Event) → List Event
-joined [] = []
-joined (x ∷ xs) = x ++ joined xs
-
-late-joined : (w : Watched) (room : ℕ) (g : Given) (cs : List (Call (List ℕ))) → liveLate w room g cs ≡ joined (lateEach w room g cs)
-late-joined w room g [] = refl
-late-joined w room g (c ∷ cs) = ap (λ z. lateBy w room g c ++ z) (late-joined w room (afterCall room g c) cs)
+    each-beside : (log : List Asked) (g k : Given) → Beside keep g k → Each Rightly g log → lateEach w g log ≡ lateEach w k (replaced keep log)
+    each-beside [] g k b h = refl
+    each-beside (a ∷ log) g k b h =
+        ap₂ (λ x y. x ∷ y) (late-beside g k a b (h .0 .0))
+        (each-beside log (afterCall g a) (afterCall k (replacedIn keep a)) (next-beside g k a b (h .0)) (h .1))
 
 -- THE CONSEQUENCE, for any set of kept PIDs
-module _ (keep : ℕ → Bool) (room t : ℕ) (counters m : List ℕ) (cs : List (Call (List ℕ))) (o : Opened t counters m) (right : NoWrongSync cs)
-    (all : AllAccepted room (opening t counters m) cs) where
-  beside : Beside keep (opening t counters m) (opening t counters m)
-  beside =
-      subst (λ (x : Given). Beside keep x x) (sym (opening-accepted t counters m (o .accepted)))
-      (opened-beside keep t m (open-accepted t counters (o .accepted) .time) (o .whole))
+module _ (t : ℕ) (counters m : List ℕ) (log : List Asked) (o : Opened t counters m) (owned : OwnTable (opening t counters m) log)
+    (right : NoWrongSync (opening t counters m) log) where
+  abbrev begun : Given
+  begun = opening t counters m
 
-  -- the calls of the replaced log are accepted, whatever PIDs are kept
-  pub accepted-replaced : AllAccepted room (opening t counters m) (replaced keep cs)
-  accepted-replaced = all-beside keep room cs (opening t counters m) (opening t counters m) beside right all
+  module _ (keep : ℕ → Bool) where
+    beside : Beside keep begun begun
+    beside =
+        subst (λ (x : Given). Beside keep x x) (sym (opening-accepted t counters m (o .accepted)))
+        (opened-beside keep t m (open-accepted t counters (o .accepted) .time) (o .whole))
 
-  -- each hands over the same late events of a watch whose own PIDs are kept
-  pub lateEach-replaced : (w : Watched) → IsWatched w → KeptFor w keep
-      → lateEach w room (opening t counters m) cs ≡ lateEach w room (opening t counters m) (replaced keep cs)
-  lateEach-replaced w is kept = each-beside keep room w is kept cs (opening t counters m) (opening t counters m) beside right all
+    rightly : Each (Rightly keep) begun (taken begun log)
+    rightly =
+        each-both AcceptedOwn (λ g a. RightSync (a .call)) (taken begun log) begun (own-taken log begun owned)
+        (each-taken (λ g a. RightSync (a .call)) log begun right)
 
-  pub liveLate-replaced : (w : Watched) → IsWatched w → KeptFor w keep
-      → liveLate w room (opening t counters m) cs ≡ liveLate w room (opening t counters m) (replaced keep cs)
-  liveLate-replaced w is kept =
-      late-joined w room (opening t counters m) cs ∙ ap joined (lateEach-replaced w is kept) ∙ sym (late-joined w room (opening t counters m) (replaced keep cs))
+    owned-replaced : Each AcceptedOwn begun (replaced keep (taken begun log))
+    owned-replaced = each-own keep (taken begun log) begun begun beside rightly
 
--- and in the paper's words, for a fixed watch and for a programme's
-module _ (room t : ℕ) (counters m : List ℕ) (cs : List (Call (List ℕ))) (o : Opened t counters m) (right : NoWrongSync cs)
-    (all : AllAccepted room (opening t counters m) cs) where
-  pub fixed-watch-alone : (k : ℕ) → k < length fixedTables
-      → AllAccepted room (opening t counters m) (replaced (onlyPid (tableOf k .pid)) cs)
-      × (liveLate (fixed k) room (opening t counters m) cs ≡ liveLate (fixed k) room (opening t counters m) (replaced (onlyPid (tableOf k .pid)) cs))
-  fixed-watch-alone k h =
-      let keep = onlyPid (tableOf k .pid) in
-      (accepted-replaced keep room t counters m cs o right all, liveLate-replaced keep room t counters m cs o right all (fixed k) h (eq-eqb (tableOf k .pid) (tableOf k .pid) refl))
+    -- the replaced calls are accepted, whatever PIDs are kept
+    pub accepted-replaced : AllAccepted begun (replaced keep (taken begun log))
+    accepted-replaced = each-map (λ g a h. h .0) (replaced keep (taken begun log)) begun owned-replaced
 
-  pub programme-watch-alone : (n q : ℕ)
-      → AllAccepted room (opening t counters m) (replaced (pidAndIndex q) cs)
-      × (liveLate (programme n q) room (opening t counters m) cs ≡ liveLate (programme n q) room (opening t counters m) (replaced (pidAndIndex q) cs))
+    -- each hands over the same late events of a watch whose own PIDs are kept
+    pub lateEach-replaced : (w : Watched) → IsWatched w → KeptFor w keep
+        → lateEach w begun (taken begun log) ≡ lateEach w begun (replaced keep (taken begun log))
+    lateEach-replaced w is kept = each-beside keep w is kept (taken begun log) begun begun beside rightly
+
+    -- and so does every log whose accepted calls they are: by demand 3 the late events go by the accepted calls alone
+    pub liveLate-replaced : (w : Watched) → IsWatched w → KeptFor w keep → (quieter : List Asked) → Quieter keep begun log quieter
+        → liveLate w begun log ≡ liveLate w begun quieter
+    liveLate-replaced w is kept quieter q =
+        let calls = replaced keep (taken begun log) in
+        along-taken (lateBy w) (lateBy-refused w) log begun
+        ∙ ap flatten (lateEach-replaced w is kept)
+        ∙ demand-3 w is t counters m calls o (each-map (λ g a h e. h .1) calls begun owned-replaced)
+        ∙ ap (λ x. otherLate w t m (callsOf x)) (taken-all calls begun accepted-replaced)
+        ∙ ap (otherLate w t m) (sym (q .calls))
+        ∙ sym (demand-3 w is t counters m quieter o (q .table))
+
+    pub watch-alone : (w : Watched) → IsWatched w → KeptFor w keep → Alone w keep begun log
+    watch-alone w is kept = record { accepted = accepted-replaced; each = lateEach-replaced w is kept; same = liveLate-replaced w is kept }
+
+  -- and in the paper's words, for a fixed watch and for a programme's
+  pub fixed-watch-alone : (k : ℕ) → k < length fixedTables → Alone (fixed k) (onlyPid (tableOf k .pid)) begun log
+  fixed-watch-alone k h = watch-alone (onlyPid (tableOf k .pid)) (fixed k) h (eq-eqb (tableOf k .pid) (tableOf k .pid) refl)
+
+  pub programme-watch-alone : (n q : ℕ) → Alone (programme n q) (pidAndIndex q) begun log
   programme-watch-alone n q =
       let keep = pidAndIndex q in
-      let own : keep q ≡ true = rw (eq-eqb q q refl) in
+      let mine : keep q ≡ true = rw (eq-eqb q q refl) in
       let index : keep patPid ≡ true = last (eqb patPid q) in
-      (accepted-replaced keep room t counters m cs o right all, liveLate-replaced keep room t counters m cs o right all (programme n q) tt (own, index))
+      watch-alone keep (programme n q) tt (mine, index)
     where
       last : (b : Bool) → (b || true) ≡ true
       last true = refl

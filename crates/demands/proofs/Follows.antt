@@ -20,23 +20,12 @@ use Rattle.programmes.specs.Listing.{nullPid}
 use Rattle.calls.specs.declared.Core.{Core}
 use Rattle.calls.specs.Cores.{listed, Held, roomFor, droppedRoom}
 use Rattle.calls.specs.Sync.{Synced, syncedOf, whileLost, inSync}
-use Rattle.calls.specs.Steps.{Step, Absorbed, arrivedTable, arrivedProgramme, newList, listedBy, relisted, arrivedIn, bytesOf, absorbedBy, absorbed, absorbedAll, builtIn, jobOf, sectionsTaken, payloadTaken, counted, step1, step2, step3, step4, step5, touched}
-use Rattle.demands.specs.Listening.{Pair, Listener, table, page, Listening, paired, quiet, pairOf, withList, indexHeard, pageHeard, heardIn, heardBy, heardOne, heardAll, payloadHeard, dropped, listen5, withByte, listen4, listen3, listen2, syncOf, withSync, listen1}
+use Rattle.calls.specs.Steps.{arrival, AfterStep, Absorbed, arrivedTable, arrivedProgramme, newList, listedBy, relisted, arrivedIn, bytesOf, absorbedBy, absorbed, absorbedAll, builtIn, jobOf, sectionsTaken, payloadTaken, counted, step1, step2, step3, step4, step5, touched}
+use Rattle.demands.specs.Listening.{Pair, Listener, table, page, Listening, paired, quiet, pairOf, listenerListed, indexHeard, pageHeard, heardIn, heardBy, heardOne, heardAll, payloadHeard, listenerDropped, listen5, listenerCounted, listen4, listen3, listen2, syncOf, listenerSynced, listen1, listenerOf}
 use Rattle.demands.specs.Judgements.{Watched, fixed, programme, actsOf, actsOfAll}
+use Rattle.demands.specs.Pages.{found}
 use Rattle.demands.proofs.Lists.{roomOn-listed, movedHalves-plain, movedBytes-plain, take-front, pairsIn-read}
-use Rattle.demands.proofs.Watches.{found, watchBy, watchIn, getD-arrived, found-page, found-index, acted-append, actsOfAll-append}
-
--- THE ENGINE WITHOUT GAP STARTS
-abbrev pub listenerOf : Held → List ℕ → Listener
-listenerOf h counters =
-    record {
-      lost = h .core .lost;
-      run = h .core .run;
-      list = map pairOf (listed (h .core));
-      half = h .core .half;
-      memory = h .memory;
-      counters = counters;
-    }
+use Rattle.demands.proofs.Watches.{watchBy, watchIn, getD-arrived, found-page, found-index, acted-append, actsOfAll-append}
 
 -- a fixed table has a gap start
 abbrev pub Has : Watched → List ℕ → Type 0
@@ -69,7 +58,7 @@ cond-both P false x y u v p q = q
 -- sync moves no watch
 pub record Heeds (h : Held) (counters : List ℕ) (y z : Synced) : Type 0 where
   pub further : y .further ≡ z .further
-  pub same : withSync (z .core) (listenerOf h counters) ≡ listenerOf (record { core = y .core; memory = h .memory }) counters
+  pub same : listenerSynced (z .core) (listenerOf h counters) ≡ listenerOf (record { core = y .core; memory = h .memory }) counters
   pub since : y .core .since ≡ h .core .since
   pub list : listed (y .core) ≡ listed (h .core)
 
@@ -135,7 +124,7 @@ module _ (w : Watched) (t : ℕ) where
   follows-index s h counters has =
       record {
         same =
-            ap (λ ps. withList ps (listenerOf h counters)) (pairsIn-read t (listed (h .core)) s)
+            ap (λ ps. listenerListed ps (listenerOf h counters)) (pairsIn-read t (listed (h .core)) s)
             ∙ ap₂ moved (movedHalves-plain (listed (h .core)) (listedBy (newList t s (h .core))) (h .core .half))
             (movedBytes-plain (listed (h .core)) (listedBy (newList t s (h .core))) (h .core .half) (h .memory));
         moves = go w has;
@@ -159,7 +148,7 @@ module _ (w : Watched) (t : ℕ) where
       go (programme n q) g = rw append-nil (found-index n q t (listed (h .core)) s)
 
   follows-arrived : (r pid n : ℕ) (s : List ℕ) (h : Held) (counters : List ℕ) → Has w (h .core .since)
-      → Follows w t (h .core) (arrivedIn t r pid n s h) counters (heardIn r pid n s (listenerOf h counters))
+      → Follows w t (h .core) (arrivedIn (arrival t r pid) n s h) counters (heardIn r pid n s (listenerOf h counters))
   follows-arrived r pid n s h counters has =
       cond-both (λ g x. Follows w t (h .core) g counters x) (eqb r patRoom) _ _ _ _ (follows-index s h counters has)
       (cond-both (λ c x. Follows w t (h .core) (record { core = c; memory = h .memory }) counters x) (isPmtRoom r) _ _ _ _
@@ -167,7 +156,7 @@ module _ (w : Watched) (t : ℕ) where
 
   -- FINISHED SECTIONS
   follows-by : (o : Outcome) (r pid : ℕ) (s : List ℕ) (h : Held) (counters : List ℕ) → Has w (h .core .since)
-      → Follows w t (h .core) (absorbedBy o t r pid s h .held) counters (heardBy o r pid s (listenerOf h counters))
+      → Follows w t (h .core) (absorbedBy o (arrival t r pid) s h .held) counters (heardBy o r pid s (listenerOf h counters))
   follows-by Unfinished r pid s h counters has = follows-quiet h counters
   follows-by (Good n) r pid s h counters has = follows-arrived r pid n s h counters has
   follows-by (Fault f c i) r pid s h counters has = follows-quiet h counters
@@ -188,23 +177,23 @@ module _ (w : Watched) (t : ℕ) where
       }
 
   follows-all : (r pid : ℕ) (fs : List Finished) (h : Held) (counters : List ℕ) → Has w (h .core .since)
-      → Follows w t (h .core) (absorbedAll t r pid fs h .held) counters (heardAll r pid fs (listenerOf h counters))
+      → Follows w t (h .core) (absorbedAll (arrival t r pid) fs h .held) counters (heardAll r pid fs (listenerOf h counters))
   unfolding absorbedAll heardAll
   follows-all r pid [] h counters has = follows-quiet h counters
   follows-all r pid (f ∷ fs) h counters has =
       let a = follows-by (outcomeOf r pid f) r pid (bytesOf f) h counters has in
-      let g = absorbed t r pid f h .held in
+      let g = absorbed (arrival t r pid) f h .held in
       rw (a .same)
-      (follows-on (h .core) g (absorbedAll t r pid fs g .held) counters counters (heardOne r pid f (listenerOf h counters))
+      (follows-on (h .core) g (absorbedAll (arrival t r pid) fs g .held) counters counters (heardOne r pid f (listenerOf h counters))
       (heardAll r pid fs (listenerOf g counters)) a (follows-all r pid fs g counters (has-kept w (h .core .since) (g .core .since) (a .keeps) has)))
 
   -- THE PAYLOAD
   follows-payload : (r : ℕ) (p : List ℕ) (h : Held) (counters : List ℕ) → Has w (h .core .since)
-      → Follows w t (h .core) (payloadTaken t r p h .held) counters (payloadHeard r p (listenerOf h counters))
+      → Follows w t (h .core) (payloadTaken (arrival t r (pidOf p)) p h .held) counters (payloadHeard r p (listenerOf h counters))
   unfolding sectionsTaken
   follows-payload r p h counters has =
       cond-both (λ (a : Absorbed) x. Follows w t (h .core) (a .held) counters x) (ltb r roomCount) _ _ _ _
-      (follows-from (h .core) (builtIn r j h .core) (absorbedAll t r (pidOf p) (j .finished) (builtIn r j h) .held) counters
+      (follows-from (h .core) (builtIn r j h .core) (absorbedAll (arrival t r (pidOf p)) (j .finished) (builtIn r j h) .held) counters
       (heardAll r (pidOf p) (j .finished) (listenerOf (builtIn r j h) counters)) refl refl
       (follows-all r (pidOf p) (j .finished) (builtIn r j h) counters has))
       (follows-quiet h counters)
@@ -213,7 +202,7 @@ module _ (w : Watched) (t : ℕ) where
       j = jobOf r (unitStart p) (payloadOf p) h
 
   -- THE STEPS
-  abbrev After : Core → Step → Listening → Type 0
+  abbrev After : Core → AfterStep → Listening → Type 0
   After c s x = Follows w t c (s .held) (s .counters) x
 
   follows-5 : (p : List ℕ) (take : Bool) (h : Held) (counters : List ℕ) (r : ℕ) → roomFor (h .core) (pidOf p) ≡ r → Has w (h .core .since)
@@ -223,7 +212,7 @@ module _ (w : Watched) (t : ℕ) where
       (cond-both (After (h .core)) (scrambledBits p) _ _ _ _ (record { same = refl; moves = refl; keeps = refl })
       (cond-both (After (h .core)) take _ _ _ _ (follows-payload (roomFor (h .core) (pidOf p)) p h counters has) (follows-quiet h counters)))
 
-  -- a half-built section that is dropped is in the same room as before
+  -- a half-built section that is listenerDropped is in the same room as before
   roomFor-dropped : (r q : ℕ) (h : Held) → roomFor (droppedRoom r h .core) q ≡ roomFor (h .core) q
   unfolding roomFor
   roomFor-dropped r q h = refl
@@ -242,7 +231,7 @@ module _ (w : Watched) (t : ℕ) where
       rest = set counters (pidOf p) (j .byte)
 
       listenIn : ℕ → Bool → Listening
-      listenIn k keep = listen5 k p (j .take) (withByte p (j .byte) (cond keep (listenerOf h counters) (dropped k (listenerOf h counters))))
+      listenIn k keep = listen5 k p (j .take) (listenerCounted p (j .byte) (cond keep (listenerOf h counters) (listenerDropped k (listenerOf h counters))))
 
       go : (keep : Bool) → After (h .core) (step5 t p (j .take) rest (cond keep h (droppedRoom r h))) (listenIn r keep)
       go true = follows-5 p (j .take) h rest r refl has
@@ -258,14 +247,14 @@ module _ (w : Watched) (t : ℕ) where
   follows-2 : (p : List ℕ) (counters : List ℕ) (h : Held) → Has w (h .core .since) → After (h .core) (step2 t p counters h) (listen2 p (listenerOf h counters))
   follows-2 p counters h has = cond-both (After (h .core)) (errorBit p) _ _ _ _ (follows-quiet h counters) (follows-3 p counters h has)
 
-  abbrev quietStep : Held → List ℕ → Step
+  abbrev quietStep : Held → List ℕ → AfterStep
   quietStep g counters = record { held = g; counters = counters; events = [] }
 
   follows-synced : (p : List ℕ) (counters : List ℕ) (h : Held) (y z : Synced) → Has w (h .core .since) → Heeds h counters y z
       → After (h .core)
       (cond (y .further) (step2 t p counters (record { core = y .core; memory = h .memory })) (quietStep (record { core = y .core; memory = h .memory }) counters))
-      (cond (z .further) (listen2 p (withSync (z .core) (listenerOf h counters))) (quiet (withSync (z .core) (listenerOf h counters))))
-  follows-synced p counters h y z has e = go (y .further) (z .further) (e .further) (withSync (z .core) (listenerOf h counters)) (e .same)
+      (cond (z .further) (listen2 p (listenerSynced (z .core) (listenerOf h counters))) (quiet (listenerSynced (z .core) (listenerOf h counters))))
+  follows-synced p counters h y z has e = go (y .further) (z .further) (e .further) (listenerSynced (z .core) (listenerOf h counters)) (e .same)
     where
       g : Held
       g = record { core = y .core; memory = h .memory }

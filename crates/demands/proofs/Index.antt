@@ -19,7 +19,7 @@ use Rattle.programmes.specs.Listing.{isPair}
 use Rattle.programmes.specs.Places.{isListed}
 use Rattle.calls.specs.declared.Core.{Core}
 use Rattle.calls.specs.Cores.{listed, Held, roomFor, withList}
-use Rattle.calls.specs.Steps.{touched, arrivedProgramme, bytesOf, absorbedBy, absorbed, step1}
+use Rattle.calls.specs.Steps.{arrival, touched, arrivedProgramme, bytesOf, absorbedBy, absorbed, step1}
 use Rattle.calls.proofs.Moves.{From, Moves, packet-moves, sync-moves}
 use Rattle.demands.specs.Listening.{pairOf, paired}
 use Rattle.demands.specs.Pages.{Nowhere, Unmoved}
@@ -39,9 +39,9 @@ untouched n q t (suc k) (x ∷ es) e = go (isPair n q x) e (untouched n q t k es
 
 -- a good PMT section on a PID, or under a number, that the list does not give changes nothing and gives no event
 pub index : (t r pid n : ℕ) (f : Finished) (h : Held) → isPmtRoom r ≡ true → outcomeOf r pid f ≡ Good n
-    → paired n pid (map pairOf (listed (h .core))) ≡ false → absorbed t r pid f h ≡ record { held = h; events = [] }
+    → paired n pid (map pairOf (listed (h .core))) ≡ false → absorbed (arrival t r pid) f h ≡ record { held = h; events = [] }
 index t r pid n f h page good other =
-    ap (λ o. absorbedBy o t r pid (bytesOf f) h) good
+    ap (λ o. absorbedBy o (arrival t r pid) (bytesOf f) h) good
     ∙ rw (pat, page) (ap (λ c. record { held = record { core = c; memory = h .memory }; events = [] }) same)
   where
     five : 5 ≤ r

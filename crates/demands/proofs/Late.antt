@@ -24,8 +24,9 @@ use Rattle.calls.specs.declared.Core.{Core}
 use Rattle.calls.specs.Cores.{listed, boardOf, lateOf}
 use Rattle.calls.specs.Sound.{numberAmong, entrySound, entriesSound}
 use Rattle.demands.specs.Listening.{pairOf, paired}
-use Rattle.demands.specs.Judgements.{Watched, fixed, programme, limitsOf, faultOf, idOf, IsWatched, isLate, lateFor, isListed, tableNamed, isNamed}
-use Rattle.demands.proofs.Watches.{found, watchIn, isOn, paired-found, same-number, same-pid}
+use Rattle.demands.specs.Judgements.{Watched, fixed, programme, limitsOf, faultOf, idOf, IsWatched, isLate, lateFor, onWatch, tableNamed, isNamed}
+use Rattle.demands.specs.Pages.{found}
+use Rattle.demands.proofs.Watches.{watchIn, isOn, paired-found, same-number, same-pid}
 
 -- STAMPS BY NAME
 unfoldable pub stampsOf : ℕ → ℕ → List Event → List ℕ
@@ -83,7 +84,7 @@ stampsOf-only f i ss es e =
     stampsOf-append f i (map (λ x. eventAt x f late i) ss) es ∙ ap₂ (λ a b. a ++ b) (stampsOf-own f i ss) e ∙ append-nil ss
 
 -- TESTS
-eqb-comm : (a b : ℕ) → eqb a b ≡ eqb b a
+pub eqb-comm : (a b : ℕ) → eqb a b ≡ eqb b a
 eqb-comm a b = go (eqb a b) refl
   where
     go : (d : Bool) → eqb a b ≡ d → d ≡ eqb b a
@@ -94,11 +95,11 @@ and-none : (a b : Bool) → a ≡ false → a && b ≡ false
 and-none true b e = absurd (true≢false e)
 and-none false b e = refl
 
-cond-none : (a b : Bool) → cond a true b ≡ false → a ≡ false
+pub cond-none : (a b : Bool) → cond a true b ≡ false → a ≡ false
 cond-none true b e = e
 cond-none false b e = refl
 
-cond-rest : (a b : Bool) → cond a true b ≡ false → b ≡ false
+pub cond-rest : (a b : Bool) → cond a true b ≡ false → b ≡ false
 cond-rest true b e = absurd (true≢false e)
 cond-rest false b e = e
 
@@ -175,7 +176,7 @@ unfolding tableNamed
 fixed-apart = (refl, (refl, (refl, (refl, (refl, tt)))))
 
 -- no programme has a fixed table's fault
-fault-other : (k : ℕ) → k < length fixedTables → eqb (pmtTable .fault) (tableOf k .fault) ≡ false
+pub fault-other : (k : ℕ) → k < length fixedTables → eqb (pmtTable .fault) (tableOf k .fault) ≡ false
 fault-other k h = not-true (eqb (pmtTable .fault) (tableOf k .fault)) (passes-at (λ j. not (eqb (pmtTable .fault) (tableOf j .fault))) 5 refl k h)
 
 pmt-unnamed : (n : ℕ) → tableNamed (pmtTable .fault) n fixedTables ≡ false
@@ -265,7 +266,7 @@ paired-once n q r (x ∷ es) a e h = go (isPair n q x) (isPair n r x) refl refl 
 
 -- THE LATE EVENTS OF A CALL with the watch's name are what falls due
 pub late-due : (w : Watched) (p t : ℕ) (c : Core) → IsWatched w → length (c .since) ≡ length fixedTables → entriesSound (listed c) ≡ true
-    → cond (isListed w c) (stampsOf (faultOf w) (idOf w) (lateOf p t c)) [] ≡ dueOf (limitsOf w) (watchIn w c) p t
+    → cond (onWatch w c) (stampsOf (faultOf w) (idOf w) (lateOf p t c)) [] ≡ dueOf (limitsOf w) (watchIn w c) p t
 unfolding lateOf
 late-due (fixed k) p t c h l a =
     rows-only p t

@@ -4,9 +4,10 @@ pub mod Follows
 pub mod Late
 pub mod Packets
 pub mod Accepted
-pub mod Agreement
-pub mod Index
 pub mod Refusals
+pub mod Agreement
+pub mod Whole
+pub mod Index
 pub mod StateWrong
 pub mod Numbers
 pub mod OthersRooms
@@ -17,5 +18,6 @@ pub mod OthersAlike
 pub mod OthersSections
 pub mod OthersSteps
 pub mod OthersUnlisted
+pub mod Pages
 pub mod OthersBeside
 pub mod Consequence

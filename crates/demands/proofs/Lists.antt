@@ -1,7 +1,7 @@
 -- The list without gap starts: rooms, half-built sections and the reading of a list go by numbers and PIDs alone. Assumes nothing.
 use mathlib.Core.Path.{_≡_, refl, sym, ap, ap₂, _∙_}
 use mathlib.Core.Bool.{Bool, true, false, cond, _||_}
-use mathlib.Core.List.{List, [], _∷_, _++_, map}
+use mathlib.Core.List.{List, [], _∷_, _++_, map, map-congr-left}
 use Prim.Native.Nat.{ℕ, zero, suc, _+_}
 use native.Mathlib.Numerals.{add-one}
 use lib.Dec.{eqb, leb}
@@ -10,7 +10,7 @@ use Rattle.lists.specs.Places.{front}
 use Rattle.watches.specs.declared.Entry.{Entry}
 use Rattle.programmes.specs.declared.Listed.{Listed}
 use Rattle.programmes.specs.Listing.{mostListed, numberOf, entryPid, entriesOf, isNumber, pidUnusable, entryFor, madeBad, listedWith, entered, readOn, noneListed, listOf}
-use Rattle.programmes.specs.Places.{placeOf, pidAt, movedHalf, movedFrom, movedHalves, movedPlace, movedPlaces, movedBytes}
+use Rattle.programmes.specs.Places.{placeOf, pidAt, everyPlace, movedHalf, movedHalves, movedBytes}
 use Rattle.programmes.proofs.Entries.{entry-number, entry-pid}
 use Rattle.calls.specs.declared.Core.{Core}
 use Rattle.calls.specs.Cores.{listed, roomFor}
@@ -39,32 +39,13 @@ roomOn-listed c q = simp (placeOf-plain, length-plain)
 
 -- HALF-BUILT SECTIONS
 module _ (old new : List Entry) where
-  movedHalf-plain : (ns : List ℕ) (k : ℕ) → movedHalf (plain (map pairOf old)) (plain (map pairOf new)) ns k ≡ movedHalf old new ns k
-  movedHalf-plain ns k = simp (pidAt-plain, placeOf-plain, length-plain)
-
-  movedFrom-plain : (ns : List ℕ) (k left : ℕ) → movedFrom (plain (map pairOf old)) (plain (map pairOf new)) ns k left ≡ movedFrom old new ns k left
-  unfolding movedFrom
-  movedFrom-plain ns k zero = refl
-  movedFrom-plain ns k (suc left) = ap₂ (λ x y. x ∷ y) (movedHalf-plain ns k) (movedFrom-plain ns (k + 1) left)
-
   pub movedHalves-plain : (ns : List ℕ) → movedHalves (plain (map pairOf old)) (plain (map pairOf new)) ns ≡ movedHalves old new ns
-  movedHalves-plain ns = ap (λ z. take 5 ns ++ z) (movedFrom-plain ns 0 16)
-
-  movedPlace-plain : (ns m₀ : List ℕ) (k : ℕ) (m : List ℕ) → movedPlace (plain (map pairOf old)) (plain (map pairOf new)) ns m₀ k m ≡ movedPlace old new ns m₀ k m
-  movedPlace-plain ns m₀ k m = simp (pidAt-plain, placeOf-plain)
-
-  movedPlaces-plain : (ns m₀ : List ℕ) (k left : ℕ) (m : List ℕ)
-      → movedPlaces (plain (map pairOf old)) (plain (map pairOf new)) ns m₀ k left m ≡ movedPlaces old new ns m₀ k left m
-  unfolding movedPlaces
-  movedPlaces-plain ns m₀ k zero m = refl
-  movedPlaces-plain ns m₀ k (suc left) m =
-      ap (λ z. movedPlaces (plain (map pairOf old)) (plain (map pairOf new)) ns m₀ (k + 1) left z) (movedPlace-plain ns m₀ k m)
-      ∙ movedPlaces-plain ns m₀ (k + 1) left (movedPlace old new ns m₀ k m)
+  movedHalves-plain ns =
+      ap (λ z. take 5 ns ++ z)
+      (map-congr-left {f = movedHalf (plain (map pairOf old)) (plain (map pairOf new)) ns} {g = movedHalf old new ns} {l = everyPlace} (λ k among. simp (pidAt-plain, placeOf-plain, length-plain)))
 
   pub movedBytes-plain : (ns m : List ℕ) → movedBytes (plain (map pairOf old)) (plain (map pairOf new)) ns m ≡ movedBytes old new ns m
-  movedBytes-plain ns m =
-      ap (λ z. movedPlaces (plain (map pairOf old)) (plain (map pairOf new)) z m 0 16 m) (movedHalves-plain ns)
-      ∙ movedPlaces-plain (movedHalves old new ns) m 0 16 m
+  movedBytes-plain ns m = simp (pidAt-plain, placeOf-plain, length-plain)
 
 -- THE READING OF A LIST: its entries are those read with no list before, each as the old one that it keeps or as a new one
 abbrev pub renewed : ℕ → List Entry → Entry → Entry

@@ -13,14 +13,14 @@ use borrow.Author.Tests.{ltb-true, ltb-false, leb-true, leb-false, eqb-true, eqb
 use Rattle.lists.proofs.Tests.{and-left, and-right}
 use Rattle.lateness.specs.Logs.{Call, clock, packet, timeOf}
 use Rattle.severity.specs.Severity as severity
-use Rattle.events.specs.Room.{leastRoom}
+use Rattle.events.specs.Capacity.{leastCapacity}
 use Rattle.watches.specs.Tables.{latestTime}
 use Rattle.header.specs.Header.{packetSize, pidOf}
 use Rattle.calls.specs.declared.State.{State}
 use Rattle.calls.specs.Sound.{timeSound, stateSound, byteSound}
-use Rattle.calls.specs.Calls.{Result, tableSize, packetWrong, tableWrong, roomWrong, timeWrong, stateWrong, orderWrong, openRefusal, packetRefusal, clockRefusal, answerOf}
+use Rattle.calls.specs.Calls.{Result, tableSize, packetWrong, tableWrong, capacityWrong, timeWrong, stateWrong, orderWrong, openRefusal, packetRefusal, clockRefusal, answerOf}
 use Rattle.calls.specs.Cores.{lateOf}
-use Rattle.demands.specs.Runs.{Given, callOf}
+use Rattle.demands.specs.Runs.{Given, callGiven}
 use Rattle.demands.specs.Conditions.{PacketWrong, TableWrong, ListShort, TimeAbove, StateWrong, ByteWrong, OrderWrong, Rung, Accepted, OpenNumber, PacketNumber, ClockNumber, SeverityNumber, ownEvents}
 use Rattle.demands.proofs.StateWrong.{state-fails, state-holds, byte-fails, byte-holds}
 use Rattle.demands.proofs.Accepted.{acceptedOf, call-accepted}
@@ -65,8 +65,8 @@ module _ {N : ℕ → Type 0} (next : ℕ) (rest : Says next N) where
   says-table counters =
       says-unless (TableWrong counters) N 2 (eqb (length counters) tableSize) next (λ e f. f (eqb-true (length counters) tableSize e)) (eqb-false (length counters) tableSize) rest
 
-  says-room : (room : ℕ) → Says (roomWrong room next) (Rung 3 (ListShort room) N)
-  says-room room = says-if (ListShort room) N 3 (ltb room leastRoom) next (ltb-true room leastRoom) (λ e h. omega (arith, ltb-false room leastRoom e)) rest
+  says-capacity : (capacity : ℕ) → Says (capacityWrong capacity next) (Rung 3 (ListShort capacity) N)
+  says-capacity capacity = says-if (ListShort capacity) N 3 (ltb capacity leastCapacity) next (ltb-true capacity leastCapacity) (λ e h. omega (arith, ltb-false capacity leastCapacity e)) rest
 
   says-time : (t : ℕ) → Says (timeWrong t next) (Rung 4 (TimeAbove t) N)
   says-time t = says-unless (TimeAbove t) N 4 (timeSound t) next (λ e h. omega (arith, leb-true t latestTime e)) (leb-false t latestTime) rest
@@ -97,32 +97,32 @@ pub demand-2-opening : (t : ℕ) (counters : List ℕ) (n : ℕ) → (openRefusa
 unfolding openRefusal
 demand-2-opening t counters = says-table (timeWrong t 0) (says-time 0 says-none t) counters
 
-pub demand-2-clock : (s : State) (t : ℕ) (m : List ℕ) (room n : ℕ) → (clockRefusal s t m room ≡ n) ↔ ClockNumber s t m room n
+pub demand-2-clock : (s : State) (t : ℕ) (m : List ℕ) (capacity n : ℕ) → (clockRefusal s t m capacity ≡ n) ↔ ClockNumber s t m capacity n
 unfolding clockRefusal
-demand-2-clock s t m room =
+demand-2-clock s t m capacity =
     let six = says-order 0 says-none s t in
     let five = says-state (orderWrong s t 0) six s m in
     let four = says-time (stateWrong (stateSound s m) (orderWrong s t 0)) five t in
-    says-room (timeWrong t (stateWrong (stateSound s m) (orderWrong s t 0))) four room
+    says-capacity (timeWrong t (stateWrong (stateSound s m) (orderWrong s t 0))) four capacity
 
-pub demand-2-packet : (s : State) (t : ℕ) (p counters m : List ℕ) (room n : ℕ)
-    → (packetRefusal s t p counters m room ≡ n) ↔ PacketNumber s t p counters m room n
+pub demand-2-packet : (s : State) (t : ℕ) (p counters m : List ℕ) (capacity n : ℕ)
+    → (packetRefusal s t p counters m capacity ≡ n) ↔ PacketNumber s t p counters m capacity n
 unfolding packetRefusal
-demand-2-packet s t p counters m room =
+demand-2-packet s t p counters m capacity =
     let x5 = stateWrong (stateSound s m && byteSound counters p) (orderWrong s t 0) in
     let six = says-order 0 says-none s t in
     let five = says-byte (orderWrong s t 0) six s p counters m in
     let four = says-time x5 five t in
-    let three = says-room (timeWrong t x5) four room in
-    let two = says-table (roomWrong room (timeWrong t x5)) three counters in
-    says-packet (tableWrong counters (roomWrong room (timeWrong t x5))) two p
+    let three = says-capacity (timeWrong t x5) four capacity in
+    let two = says-table (capacityWrong capacity (timeWrong t x5)) three counters in
+    says-packet (tableWrong counters (capacityWrong capacity (timeWrong t x5))) two p
 
 pub demand-2-severity : (kind gap n : ℕ) → (severity.severityOf kind gap .refusal ≡ n) ↔ SeverityNumber kind n
 unfolding severity.severityOf
 demand-2-severity kind gap = go (ltb kind (length severity.table)) refl
   where
     go : (b : Bool) → ltb kind (length severity.table) ≡ b
-        → Says (cond b (severity.answerFor (severity.setFor (severity.rowOf kind) gap)) severity.refused .refusal) (SeverityNumber kind)
+        → Says (cond b (severity.answerFor (severity.setFor (severity.rowFor kind) gap)) severity.refused .refusal) (SeverityNumber kind)
     go true e = says-next (length severity.table ≤ kind) Accepted 7 0 (λ h. omega (arith, ltb-true kind (length severity.table) e)) says-none
     go false e = says-here (length severity.table ≤ kind) Accepted 7 (ltb-false kind (length severity.table) e)
 
@@ -130,22 +130,22 @@ demand-2-severity kind gap = go (ltb kind (length severity.table)) refl
 pub demand-2-accepts-opening : (t : ℕ) (counters : List ℕ) → (TableWrong counters → ⊥) → (TimeAbove t → ⊥) → openRefusal t counters ≡ 0
 demand-2-accepts-opening t counters two four = demand-2-opening t counters 0 .1 (inr (two, inr (four, refl)))
 
-pub demand-2-accepts-clock : (s : State) (t : ℕ) (m : List ℕ) (room : ℕ)
-    → (ListShort room → ⊥) → (TimeAbove t → ⊥) → (StateWrong s m → ⊥) → (OrderWrong s t → ⊥) → clockRefusal s t m room ≡ 0
-demand-2-accepts-clock s t m room three four five six =
-    demand-2-clock s t m room 0 .1 (inr (three, inr (four, inr (five, inr (six, refl)))))
+pub demand-2-accepts-clock : (s : State) (t : ℕ) (m : List ℕ) (capacity : ℕ)
+    → (ListShort capacity → ⊥) → (TimeAbove t → ⊥) → (StateWrong s m → ⊥) → (OrderWrong s t → ⊥) → clockRefusal s t m capacity ≡ 0
+demand-2-accepts-clock s t m capacity three four five six =
+    demand-2-clock s t m capacity 0 .1 (inr (three, inr (four, inr (five, inr (six, refl)))))
 
-pub demand-2-accepts-packet : (s : State) (t : ℕ) (p counters m : List ℕ) (room : ℕ)
-    → (PacketWrong p → ⊥) → (TableWrong counters → ⊥) → (ListShort room → ⊥) → (TimeAbove t → ⊥)
-    → (StateWrong s m ⊎ ByteWrong (getD counters (pidOf p) 0) → ⊥) → (OrderWrong s t → ⊥) → packetRefusal s t p counters m room ≡ 0
-demand-2-accepts-packet s t p counters m room one two three four five six =
-    demand-2-packet s t p counters m room 0 .1 (inr (one, inr (two, inr (three, inr (four, inr (five, inr (six, refl)))))))
+pub demand-2-accepts-packet : (s : State) (t : ℕ) (p counters m : List ℕ) (capacity : ℕ)
+    → (PacketWrong p → ⊥) → (TableWrong counters → ⊥) → (ListShort capacity → ⊥) → (TimeAbove t → ⊥)
+    → (StateWrong s m ⊎ ByteWrong (getD counters (pidOf p) 0) → ⊥) → (OrderWrong s t → ⊥) → packetRefusal s t p counters m capacity ≡ 0
+demand-2-accepts-packet s t p counters m capacity one two three four five six =
+    demand-2-packet s t p counters m capacity 0 .1 (inr (one, inr (two, inr (three, inr (four, inr (five, inr (six, refl)))))))
 
 -- DEMAND 2: the events of an accepted call are the late ones, then those of steps 1 to 5; n is their number
-pub demand-2-events : (room : ℕ) (g : Given) (c : Call (List ℕ)) → callOf room g c .refusal ≡ 0
-    → (callOf room g c .events ≡ lateOf (g .state .latest) (timeOf c) (g .state .core) ++ ownEvents g c)
-    × (answerOf (callOf room g c) .n ≡ length (callOf room g c .events))
-demand-2-events room g c e = (ap (λ (x : Result). x .events) (call-accepted room g c e) ∙ own c, refl)
+pub demand-2-events : (capacity : ℕ) (g : Given) (c : Call (List ℕ)) → callGiven capacity g c .refusal ≡ 0
+    → (callGiven capacity g c .events ≡ lateOf (g .state .latest) (timeOf c) (g .state .core) ++ ownEvents g c)
+    × (answerOf (callGiven capacity g c) .n ≡ length (callGiven capacity g c .events))
+demand-2-events capacity g c e = (ap (λ (x : Result). x .events) (call-accepted capacity g c e) ∙ own c, refl)
   where
     own : (d : Call (List ℕ)) → acceptedOf g d .events ≡ lateOf (g .state .latest) (timeOf d) (g .state .core) ++ ownEvents g d
     own (clock t) = sym (append-nil (lateOf (g .state .latest) t (g .state .core)))

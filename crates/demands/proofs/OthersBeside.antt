@@ -11,17 +11,18 @@ use lib.ListN.{length, take}
 use borrow.Author.Tests.{lt-ltb, ltb-true}
 use Rattle.lists.proofs.Tests.{and-left, and-right, and-intro, order}
 use Rattle.lateness.specs.Logs.{Call, clock, packet, orClock}
-use Rattle.events.specs.Room.{leastRoom}
+use Rattle.events.specs.Capacity.{leastCapacity}
 use Rattle.watches.specs.declared.Entry.{Entry}
 use Rattle.watches.specs.Tables.{fixedTables, patPid, latestTime}
-use Rattle.header.specs.Header.{rightSync, pidOf}
+use Rattle.header.specs.Header.{pidOf}
 use Rattle.continuity.specs.Continuity.{knownByte}
 use Rattle.calls.specs.Steps.{step1}
 use Rattle.calls.specs.Sound.{numberAmong, entrySound, entriesSound, stateSound, byteSound}
 use Rattle.calls.specs.Calls.{heldOf}
 use Rattle.calls.proofs.Accepted.{ClockAccepted, clock-accepted, accepted-clock, PacketAccepted, packet-accepted, accepted-packet, packet-number, clock-number, SoundEntry, entry-parts, entry-whole, entries-parts, entries-whole, sound-parts, sound-whole}
 use Rattle.calls.specs.Cores.{listed, Held, fixedRoom}
-use Rattle.demands.specs.Runs.{Given, callOf}
+use Rattle.demands.specs.Runs.{Given, callGiven}
+use Rattle.demands.specs.Others.{replacedCall, RightSync}
 use Rattle.demands.proofs.Accepted.{acceptedAfter}
 use Rattle.demands.proofs.OthersLists.{Timely, Alikes, none, next}
 use Rattle.demands.proofs.OthersPids.{Shaped, IsFixed}
@@ -56,15 +57,6 @@ module _ (mine : ℕ → Bool) where
       and-intro (entrySound y && not (numberAmong (y .number) ds)) (entriesSound ds)
       (and-intro (entrySound y) (not (numberAmong (y .number) ds)) (entry-whole y sound) alone)
       (alikes-sound z (h .1) (and-right (entrySound x && not (numberAmong (x .number) es)) (entriesSound es) e))
-
--- one call of the replaced log
-abbrev pub replacedCall : (ℕ → Bool) → Call (List ℕ) → Call (List ℕ)
-replacedCall keep (clock t) = clock t
-replacedCall keep (packet t p) = orClock (keep (pidOf p)) t p
-
-abbrev pub RightIn : Call (List ℕ) → Type 0
-RightIn (clock t) = Unit {0}
-RightIn (packet t p) = rightSync p ≡ true
 
 -- THE PIDS that are followed: those kept, and where PID 0 is not kept the fixed ones among them
 abbrev isFixed : ℕ → Bool
@@ -161,47 +153,47 @@ module _ (keep : ℕ → Bool) where
         go false z = b .unlisted (skipped (pidOf p) kept z) .1 (pidOf p)
 
     -- A CALL OF THE REPLACED LOG is accepted where the log's is
-    module _ (room : ℕ) where
-      clock-beside : (t : ℕ) → leastRoom ≤ room → t ≤ latestTime → stateSound (g .state) (g .memory) ≡ true → g .state .latest ≤ t
-          → callOf room k (clock t) .refusal ≡ 0
+    module _ (capacity : ℕ) where
+      clock-beside : (t : ℕ) → leastCapacity ≤ capacity → t ≤ latestTime → stateSound (g .state) (g .memory) ≡ true → g .state .latest ≤ t
+          → callGiven capacity k (clock t) .refusal ≡ 0
       clock-beside t r early sound later =
-          clock-number (k .state) t (k .memory) room
-          ∙ accepted-clock (k .state) t (k .memory) room
-          (record { room = r; time = early; sound = sound-beside sound; order = omega (arith, later, b .latest) })
+          clock-number (k .state) t (k .memory) capacity
+          ∙ accepted-clock (k .state) t (k .memory) capacity
+          (record { capacity = r; time = early; sound = sound-beside sound; order = omega (arith, later, b .latest) })
 
-      was-clock : (t : ℕ) → callOf room g (clock t) .refusal ≡ 0 → ClockAccepted (g .state) t (g .memory) room
-      was-clock t e = clock-accepted (g .state) t (g .memory) room (sym (clock-number (g .state) t (g .memory) room) ∙ e)
+      was-clock : (t : ℕ) → callGiven capacity g (clock t) .refusal ≡ 0 → ClockAccepted (g .state) t (g .memory) capacity
+      was-clock t e = clock-accepted (g .state) t (g .memory) capacity (sym (clock-number (g .state) t (g .memory) capacity) ∙ e)
 
-      was-packet : (t : ℕ) (p : List ℕ) → callOf room g (packet t p) .refusal ≡ 0 → PacketAccepted (g .state) t p (g .counters) (g .memory) room
+      was-packet : (t : ℕ) (p : List ℕ) → callGiven capacity g (packet t p) .refusal ≡ 0 → PacketAccepted (g .state) t p (g .counters) (g .memory) capacity
       was-packet t p e =
-          packet-accepted (g .state) t p (g .counters) (g .memory) room (sym (packet-number (g .state) t p (g .counters) (g .memory) room) ∙ e)
+          packet-accepted (g .state) t p (g .counters) (g .memory) capacity (sym (packet-number (g .state) t p (g .counters) (g .memory) capacity) ∙ e)
 
-      pub accepted-beside : (c : Call (List ℕ)) → callOf room g c .refusal ≡ 0 → callOf room k (replacedCall keep c) .refusal ≡ 0
+      pub accepted-beside : (c : Call (List ℕ)) → callGiven capacity g c .refusal ≡ 0 → callGiven capacity k (replacedCall keep c) .refusal ≡ 0
       accepted-beside (clock t) e =
           let a = was-clock t e in
-          clock-beside t (a .room) (a .time) (a .sound) (a .order)
+          clock-beside t (a .capacity) (a .time) (a .sound) (a .order)
       accepted-beside (packet t p) e = go (keep (pidOf p)) refl
         where
-          a : PacketAccepted (g .state) t p (g .counters) (g .memory) room
+          a : PacketAccepted (g .state) t p (g .counters) (g .memory) capacity
           a = was-packet t p e
 
-          go : (x : Bool) → keep (pidOf p) ≡ x → callOf room k (orClock x t p) .refusal ≡ 0
+          go : (x : Bool) → keep (pidOf p) ≡ x → callGiven capacity k (orClock x t p) .refusal ≡ 0
           go true z =
-              packet-number (k .state) t p (k .counters) (k .memory) room
-              ∙ accepted-packet (k .state) t p (k .counters) (k .memory) room
+              packet-number (k .state) t p (k .counters) (k .memory) capacity
+              ∙ accepted-packet (k .state) t p (k .counters) (k .memory) capacity
               (record {
                 packet = a .packet;
                 table = sym (b .alike .table) ∙ a .table;
-                room = a .room;
+                capacity = a .capacity;
                 time = a .time;
                 sound = sound-beside (a .sound);
                 byte = byte-beside p z (a .byte);
                 order = omega (arith, a .order, b .latest);
               })
-          go false z = clock-beside t (a .room) (a .time) (a .sound) (a .order)
+          go false z = clock-beside t (a .capacity) (a .time) (a .sound) (a .order)
 
       -- and the two stay side by side
-      pub after-beside : (c : Call (List ℕ)) → callOf room g c .refusal ≡ 0 → RightIn c → Beside (acceptedAfter g c) (acceptedAfter k (replacedCall keep c))
+      pub after-beside : (c : Call (List ℕ)) → callGiven capacity g c .refusal ≡ 0 → RightSync c → Beside (acceptedAfter g c) (acceptedAfter k (replacedCall keep c))
       after-beside (clock t) e right = record { latest = refl; alike = b .alike; unlisted = b .unlisted }
       after-beside (packet t p) e right = go (keep (pidOf p)) refl
         where

@@ -4,8 +4,8 @@ use mathlib.Core.Bool.{Bool, true, false, cond, _&&_}
 use mathlib.Core.List.{List, []}
 use Prim.Native.Nat.{ℕ, _+_, _-_, _≤_, _<_}
 use native.Mathlib.Omega.{arith}
-use lib.ListN.{length, take, drop, List·getD-append, length-take}
-use lib.Seq.{length-take-le, getD-take}
+use lib.ListN.{length, drop, length-take}
+use lib.Seq.{length-take-le}
 use borrow.Author.Tests.{lt-ltb, ltb-true, eq-eqb}
 use Rattle.lists.specs.Places.{part}
 use Rattle.lists.proofs.Tests.{Order, below, from, order}
@@ -17,9 +17,9 @@ use Rattle.sections.specs.Section.{stageOf, isMore}
 use Rattle.sections.proofs.Stages.{stage-few, room-fits}
 use Rattle.sections.proofs.Rooms.{place-top}
 use Rattle.programmes.specs.declared.Listed.{Listed}
-use Rattle.programmes.specs.Places.{placeOf, isListed, pidAt, isFirst, halfAt, movedHalf, movedFrom, movedHalves}
-use Rattle.programmes.proofs.Moves.{halves-at, halves-length}
-use Rattle.programmes.proofs.Moved.{moving, moved-length, places-others, places-here}
+use Rattle.programmes.specs.Places.{placeOf, isListed, pidAt, isFirst, halfAt, stoodIn, movedHalf, movedHalves, movedSection}
+use Rattle.programmes.proofs.Moves.{halves-fixed, halves-at, halves-length}
+use Rattle.programmes.proofs.Moved.{rooms-fixed, rooms-here, moved-length}
 use Rattle.calls.specs.Cores.{listed, Held, fixedRoom}
 use Rattle.calls.specs.Steps.{listedBy, listOn}
 use Rattle.demands.proofs.OthersLists.{Filled, filled-starts}
@@ -39,65 +39,62 @@ module _ (l : Listed) (h : Held) (s : Shaped h) (f : Filled l) where
   new-length = omega (arith, length-take-le (l .count) (l .entries) (omega (arith, f .count, f .places)), f .count)
 
   half-fixed : (r : ℕ) → r < 5 → halfAt halves r ≡ halfAt (h .core .half) r
-  half-fixed r g =
-      List·getD-append (take 5 (h .core .half)) (movedFrom old new (h .core .half) 0 16) 0 r
-      (omega (arith, length-take-le 5 (h .core .half) (omega (arith, s .half))))
-      ∙ getD-take 5 (h .core .half) r 0 g
+  half-fixed r g = halves-fixed old new (h .core .half) (omega (arith, s .half)) r g
 
   half-place : (k : ℕ) → k < 16 → halfAt halves (roomOfPlace k) ≡ movedHalf old new (h .core .half) k
   half-place k g = halves-at old new (h .core .half) (omega (arith, s .half)) k g
 
+  abbrev half : ℕ → ℕ
+  half k = movedHalf old new (h .core .half) k
+
+  abbrev source : ℕ → ℕ
+  source k = stoodIn old new k
+
   -- a place of the new list: its PID was listed before, or it has nothing half-built
   data Moved (k : ℕ) : Type 0 where
-    stays : placeOf (pidAt new k) old < length old → halfAt halves (roomOfPlace k) ≡ halfAt (h .core .half) (roomOfPlace (placeOf (pidAt new k) old)) → Moved k
-    empty : halfAt halves (roomOfPlace k) ≡ 0 → Moved k
+    stays : placeOf (pidAt new k) old < length old → half k ≡ halfAt (h .core .half) (source k) → Moved k
+    empty : half k ≡ 0 → Moved k
 
-  moved : (k : ℕ) → k < 16 → Moved k
-  moved k g = go (isFirst new k) (isListed (pidAt new k) old) refl (half-place k g)
+  moved : (k : ℕ) → Moved k
+  moved k = go (isFirst new k) (isListed (pidAt new k) old) refl refl
     where
-      go : (a b : Bool) → isListed (pidAt new k) old ≡ b
-          → halfAt halves (roomOfPlace k) ≡ cond (a && b) (halfAt (h .core .half) (roomOfPlace (placeOf (pidAt new k) old))) 0 → Moved k
+      go : (a b : Bool) → isListed (pidAt new k) old ≡ b → half k ≡ cond (a && b) (halfAt (h .core .half) (source k)) 0 → Moved k
       go true true e z = stays (ltb-true (placeOf (pidAt new k) old) (length old) e) z
       go true false e z = empty z
       go false b e z = empty z
 
-  abbrev source : ℕ → ℕ
-  source k = roomOfPlace (placeOf (pidAt new k) old)
-
   source-room : (k : ℕ) → placeOf (pidAt new k) old < length old → source k < roomCount
   source-room k before = omega (arith, before, listed-length h s)
 
-  half-most : (k : ℕ) → k < 16 → halfAt halves (roomOfPlace k) ≤ 1024
-  half-most k g = go (moved k g)
+  half-most : (k : ℕ) → half k ≤ 1024
+  half-most k = go (moved k)
     where
-      go : Moved k → halfAt halves (roomOfPlace k) ≤ 1024
+      go : Moved k → half k ≤ 1024
       go (stays before e) = omega (arith, e, shaped-fits h s (source k) (source-room k before), place-top (placeOf (pidAt new k) old))
       go (empty e) = omega (arith, e)
 
-  moving-most : (k : ℕ) → k < 16 → length (moving old new halves (h .memory) k) ≤ 1024
+  section-most : (k : ℕ) → k < 16 → length (movedSection old new (h .core .half) (h .memory) k) ≤ 1024
   unfolding part
-  moving-most k g = omega (arith, half-most k g, length-take (halfAt halves (roomOfPlace k)) (drop (roomBase (source k)) (h .memory)))
+  section-most k g = omega (arith, half-most k, length-take (half k) (drop (roomBase (source k)) (h .memory)))
 
   -- THE BYTES of a fixed room, and of a place
   bytes-fixed : (r : ℕ) → r < 5 → bytesIn (listOn l h) r ≡ bytesIn h r
   bytes-fixed r g =
       ap (halfBuilt (listOn l h .memory) r) (half-fixed r g)
-      ∙ places-others old new halves (h .memory) moving-most r (halfAt (h .core .half) r) (omega arith) (omega (arith, shaped-fits h s r (omega arith))) 0 16
-      (h .memory) (omega arith) (λ j z e. omega (arith, e, g))
+      ∙ rooms-fixed (movedSection old new (h .core .half) (h .memory)) section-most r (halfAt (h .core .half) r) (h .memory) g (omega (arith, shaped-fits h s r (omega arith)))
 
-  bytes-stay : (k : ℕ) → k < 16 → placeOf (pidAt new k) old < length old → halfAt halves (roomOfPlace k) ≡ halfAt (h .core .half) (source k)
+  bytes-stay : (k : ℕ) → k < 16 → placeOf (pidAt new k) old < length old → half k ≡ halfAt (h .core .half) (source k)
       → bytesIn (listOn l h) (roomOfPlace k) ≡ bytesIn h (source k)
   bytes-stay k g before e =
       let room = source-room k before in
-      let inside : roomBase (source k) + halfAt halves (roomOfPlace k) ≤ length (h .memory) =
-      rw e (omega (arith, shaped-fits h s (source k) room, room-fits (source k) room, s .memory)) in
-      places-here old new halves (h .memory) moving-most k (part-length (h .memory) (roomBase (source k)) (halfAt halves (roomOfPlace k)) inside) 0 16
-      (h .memory) (s .memory) (omega arith) g (omega arith)
+      let inside : roomBase (source k) + half k ≤ length (h .memory) = rw e (omega (arith, shaped-fits h s (source k) room, room-fits (source k) room, s .memory)) in
+      ap (halfBuilt (listOn l h .memory) (roomOfPlace k)) (half-place k g)
+      ∙ rooms-here (movedSection old new (h .core .half) (h .memory)) section-most k (half k) (h .memory) (part-length (h .memory) (roomBase (source k)) (half k) inside) g (s .memory)
       ∙ ap (halfBuilt (h .memory) (source k)) e
 
-  bytes-empty : (k : ℕ) → halfAt halves (roomOfPlace k) ≡ 0 → bytesIn (listOn l h) (roomOfPlace k) ≡ []
+  bytes-empty : (k : ℕ) → k < 16 → half k ≡ 0 → bytesIn (listOn l h) (roomOfPlace k) ≡ []
   unfolding part
-  bytes-empty k e = ap (halfBuilt (listOn l h .memory) (roomOfPlace k)) e
+  bytes-empty k g e = ap (halfBuilt (listOn l h .memory) (roomOfPlace k)) (half-place k g ∙ e)
 
   pub listed-shaped : Shaped (listOn l h)
   listed-shaped =
@@ -118,13 +115,13 @@ module _ (l : Listed) (h : Held) (s : Shaped h) (f : Filled l) where
       at-place k g (stays before e) =
           ap₂ (λ top z. isMore (stageOf top z)) (place-top k ∙ sym (place-top (placeOf (pidAt new k) old))) (bytes-stay k g before e)
           ∙ s .more (source k) (source-room k before)
-      at-place k g (empty e) = ap (λ z. isMore (stageOf (greatestLength (roomOfPlace k)) z)) (bytes-empty k e) ∙ ap isMore (stage-few (greatestLength (roomOfPlace k)) [] (omega arith))
+      at-place k g (empty e) = ap (λ z. isMore (stageOf (greatestLength (roomOfPlace k)) z)) (bytes-empty k g e) ∙ ap isMore (stage-few (greatestLength (roomOfPlace k)) [] (omega arith))
 
       more : (r : ℕ) → r < roomCount → Order r 5 → isMore (stageOf (greatestLength r) (bytesIn (listOn l h) r)) ≡ true
       more r g (below b) = ap (λ z. isMore (stageOf (greatestLength r) z)) (bytes-fixed r b) ∙ s .more r g
       more r g (from b) =
           let e : roomOfPlace (r - 5) ≡ r = omega arith in
-          subst (λ (i : ℕ). isMore (stageOf (greatestLength i) (bytesIn (listOn l h) i)) ≡ true) e (at-place (r - 5) (omega arith) (moved (r - 5) (omega arith)))
+          subst (λ (i : ℕ). isMore (stageOf (greatestLength i) (bytesIn (listOn l h) i)) ≡ true) e (at-place (r - 5) (omega arith) (moved (r - 5)))
 
   -- A FIXED PID keeps its half-built section
   pub listed-fixed : (q : ℕ) → IsFixed q → bytesFor (listOn l h) q ≡ bytesFor h q
@@ -141,14 +138,12 @@ module _ (l : Listed) (h : Held) (s : Shaped h) (f : Filled l) where
       let k = placeOf q new in
       let pid : pidAt new k ≡ q = place-pid q new here in
       let few : k < 16 = omega (arith, here, new-length) in
-      let half : halfAt halves (roomOfPlace k) ≡ halfAt (h .core .half) (source k) =
-      half-place k few ∙ rw (pid, lt-ltb k (length new) here, eq-eqb (placeOf q new) k refl, lt-ltb (placeOf q old) (length old) before) in
-      bytes-stay k few (rw pid before) half ∙ ap (λ p. bytesIn h (roomOfPlace (placeOf p old))) pid ∙ ap (bytesIn h) (sym e)
+      let kept : half k ≡ halfAt (h .core .half) (source k) = rw (pid, lt-ltb k (length new) here, eq-eqb (placeOf q new) k refl, lt-ltb (placeOf q old) (length old) before) in
+      bytes-stay k few (rw pid before) kept ∙ ap (λ p. bytesIn h (roomOfPlace (placeOf p old))) pid ∙ ap (bytesIn h) (sym e)
   place-kept q other here (nowhere g gone e) =
       let k = placeOf q new in
       let pid : pidAt new k ≡ q = place-pid q new here in
-      bytes-empty k
-      (half-place k (omega (arith, here, new-length)) ∙ rw (pid, lt-ltb k (length new) here, eq-eqb (placeOf q new) k refl, gone))
+      bytes-empty k (omega (arith, here, new-length)) (rw (pid, lt-ltb k (length new) here, eq-eqb (placeOf q new) k refl, gone))
       ∙ sym (ap (bytesIn h) e ∙ bytes-nowhere h s noRoom (omega arith))
 
   pub listed-bytes : (q : ℕ) → (IsFixed q → ⊥) → bytesFor (listOn l h) q ≡ cond (isListed q new) (bytesFor h q) []

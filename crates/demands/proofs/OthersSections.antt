@@ -17,7 +17,7 @@ use Rattle.sections.specs.Outcomes.{isPmtRoom, outcomeOf}
 use Rattle.sections.proofs.Stages.{room-fits}
 use Rattle.programmes.specs.Places.{halfAt}
 use Rattle.calls.specs.Cores.{listed, Held, roomFor}
-use Rattle.calls.specs.Steps.{arrivedTable, arrivedProgramme, newList, relisted, arrivedIn, bytesOf, absorbedBy, absorbed, absorbedAll, jobOf, builtIn, sectionsTaken}
+use Rattle.calls.specs.Steps.{arrival, arrivedTable, arrivedProgramme, newList, relisted, arrivedIn, bytesOf, absorbedBy, absorbed, absorbedAll, jobOf, builtIn, sectionsTaken}
 use Rattle.header.specs.Header.{pidOf, unitStart, payloadOf}
 use Rattle.calls.proofs.Moves.{tableArrived, payloadBuilt}
 use Rattle.demands.proofs.OthersRooms.{Within, Same, built-within, built-same}
@@ -44,7 +44,7 @@ module _ (mine : ℕ → Bool) (closed : Closed mine) (t : ℕ) (early : t ≤ l
 
   -- OF A PID THAT IS MINE
   module _ (r q : ℕ) (index : r ≡ patRoom → mine patPid ≡ true) where
-    own-arrived : (n : ℕ) (z : List ℕ) (h k : Held) → Alike mine h k → Alike mine (arrivedIn t r q n z h) (arrivedIn t r q n z k)
+    own-arrived : (n : ℕ) (z : List ℕ) (h k : Held) → Alike mine h k → Alike mine (arrivedIn (arrival t r q) n z h) (arrivedIn (arrival t r q) n z k)
     own-arrived n z h k a = go (eqb r patRoom) refl
       where
         go : (b : Bool) → eqb r patRoom ≡ b
@@ -62,19 +62,19 @@ module _ (mine : ℕ → Bool) (closed : Closed mine) (t : ℕ) (early : t ≤ l
             either true = own-programme mine closed h k a n q t early
             either false = own-table mine closed h k a t r early
 
-    own-absorbed : (f : Finished) (h k : Held) → Alike mine h k → Alike mine (absorbed t r q f h .held) (absorbed t r q f k .held)
+    own-absorbed : (f : Finished) (h k : Held) → Alike mine h k → Alike mine (absorbed (arrival t r q) f h .held) (absorbed (arrival t r q) f k .held)
     own-absorbed f h k a = go (outcomeOf r q f)
       where
-        go : (o : Outcome) → Alike mine (absorbedBy o t r q (bytesOf f) h .held) (absorbedBy o t r q (bytesOf f) k .held)
+        go : (o : Outcome) → Alike mine (absorbedBy o (arrival t r q) (bytesOf f) h .held) (absorbedBy o (arrival t r q) (bytesOf f) k .held)
         go Unfinished = a
         go (Good n) = own-arrived n (bytesOf f) h k a
         go (Fault x c i) = a
         go Silent = a
 
-    own-all : (fs : List Finished) (h k : Held) → Alike mine h k → Alike mine (absorbedAll t r q fs h .held) (absorbedAll t r q fs k .held)
+    own-all : (fs : List Finished) (h k : Held) → Alike mine h k → Alike mine (absorbedAll (arrival t r q) fs h .held) (absorbedAll (arrival t r q) fs k .held)
     unfolding absorbedAll
     own-all [] h k a = a
-    own-all (f ∷ fs) h k a = own-all fs (absorbed t r q f h .held) (absorbed t r q f k .held) (own-absorbed f h k a)
+    own-all (f ∷ fs) h k a = own-all fs (absorbed (arrival t r q) f h .held) (absorbed (arrival t r q) f k .held) (own-absorbed f h k a)
 
   -- the half-built length of a PID that is mine
   bytes-length : (h : Held) → Shaped h → (r : ℕ) → r < roomCount → length (halfBuilt (h .memory) r (halfAt (h .core .half) r)) ≡ halfAt (h .core .half) r
@@ -82,10 +82,10 @@ module _ (mine : ℕ → Bool) (closed : Closed mine) (t : ℕ) (early : t ≤ l
       part-length (h .memory) (roomBase r) (halfAt (h .core .half) r) (omega (arith, shaped-fits h s r l, room-fits r l, s .memory))
 
   pub own-taken : (q : ℕ) (start : Bool) (z : List ℕ) (h k : Held) → Alike mine h k → mine q ≡ true → (r : ℕ) → r ≡ roomFor (h .core) q → r < roomCount
-      → Alike mine (sectionsTaken t r q start z h .held) (sectionsTaken t r q start z k .held)
+      → Alike mine (sectionsTaken (arrival t r q) start z h .held) (sectionsTaken (arrival t r q) start z k .held)
   unfolding sectionsTaken
   own-taken q start z h k a own r er room =
-      subst (λ (fs : List Finished). Alike mine (absorbedAll t r q (j .finished) (builtIn r j h) .held) (absorbedAll t r q fs (builtIn r i k) .held)) (same .finished)
+      subst (λ (fs : List Finished). Alike mine (absorbedAll (arrival t r q) (j .finished) (builtIn r j h) .held) (absorbedAll (arrival t r q) fs (builtIn r i k) .held)) (same .finished)
       (own-all r q index (j .finished) (builtIn r j h) (builtIn r i k)
       (own-changed mine closed h k a q (j .half) (i .half) (j .memory) (i .memory) own r er room (same .left .more) (same .right .more) (same .left .size) (same .right .size)
       (same .left .others) (same .right .others) (same .bytes)))

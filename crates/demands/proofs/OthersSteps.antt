@@ -20,7 +20,7 @@ use Rattle.sections.specs.Building.{Finished}
 use Rattle.programmes.specs.Listing.{nullPid}
 use Rattle.calls.specs.Cores.{Held, roomFor, droppedRoom, withSync}
 use Rattle.calls.specs.Sync.{Synced, inSync, syncedOf}
-use Rattle.calls.specs.Steps.{Step, bytesOf, relisted, packetEvents, also, Absorbed, payloadTaken, sectionsTaken, step5, step4, step3, step2, step1, counted}
+use Rattle.calls.specs.Steps.{arrival, AfterStep, bytesOf, relisted, packetEvents, also, Absorbed, payloadTaken, sectionsTaken, step5, step4, step3, step2, step1, counted}
 use Rattle.calls.proofs.Moves.{From, syncedHeld, tableArrived, programmeArrived, payloadBuilt, Moves, packet-moves}
 use Rattle.demands.proofs.OthersPids.{Shaped, table-pid, bytesIn}
 use Rattle.demands.proofs.OthersAlike.{rooms-same, Alike, alike-itself, alike-sym, alike-trans, Closed, alike-room, other-dropped, other-table, other-programme, own-dropped}
@@ -47,14 +47,14 @@ module _ (mine : ℕ → Bool) where
   pub with-sym : (h k : Held) (cs ds : List ℕ) → AlikeWith h cs k ds → AlikeWith k ds h cs
   with-sym h k cs ds a = record { held = alike-sym mine h k (a .held); table = sym (a .table); byte = λ q z. sym (a .byte q z) }
 
-  abbrev AlikeStep : Step → Step → Type 0
+  abbrev AlikeStep : AfterStep → AfterStep → Type 0
   AlikeStep a b = AlikeWith (a .held) (a .counters) (b .held) (b .counters)
 
   -- step 1 in sync
   abbrev synced : Held → Held
   synced h = record { core = withSync false 0 (h .core); memory = h .memory }
 
-  abbrev afterSync : ℕ → List ℕ → List ℕ → Held → Synced → Step
+  abbrev afterSync : ℕ → List ℕ → List ℕ → Held → Synced → AfterStep
   afterSync t p cs h y =
       let g : Held = record { core = y .core; memory = h .memory } in
       let s = step2 t p cs g in
@@ -122,20 +122,20 @@ module _ (mine : ℕ → Bool) where
 
     -- OF A PID THAT IS MINE
     module _ (own : mine (pidOf p) ≡ true) where
-      own-payload : (h k : Held) → Alike mine h k → Alike mine (payloadTaken t (roomFor (h .core) (pidOf p)) p h .held) (payloadTaken t (roomFor (k .core) (pidOf p)) p k .held)
+      own-payload : (h k : Held) → Alike mine h k → Alike mine (payloadTaken (arrival t (roomFor (h .core) (pidOf p)) (pidOf p)) p h .held) (payloadTaken (arrival t (roomFor (k .core) (pidOf p)) (pidOf p)) p k .held)
       own-payload h k a =
-          subst (λ (r : ℕ). Alike mine (payloadTaken t (roomFor (h .core) (pidOf p)) p h .held) (payloadTaken t r p k .held)) (alike-room mine closed h k a (pidOf p) own)
+          subst (λ (r : ℕ). Alike mine (payloadTaken (arrival t (roomFor (h .core) (pidOf p)) (pidOf p)) p h .held) (payloadTaken (arrival t r (pidOf p)) p k .held)) (alike-room mine closed h k a (pidOf p) own)
           (go (roomFor (h .core) (pidOf p)) refl (ltb (roomFor (h .core) (pidOf p)) roomCount) refl)
         where
           taken : ℕ → Held → Absorbed
-          taken r g = sectionsTaken t r (pidOf p) (unitStart p) (payloadOf p) g
+          taken r g = sectionsTaken (arrival t r (pidOf p)) (unitStart p) (payloadOf p) g
 
           go : (r : ℕ) → r ≡ roomFor (h .core) (pidOf p) → (b : Bool) → ltb r roomCount ≡ b
               → Alike mine (cond b (taken r h) (record { held = h; events = [] }) .held) (cond b (taken r k) (record { held = k; events = [] }) .held)
           go r er true e = own-taken mine closed t early (pidOf p) (unitStart p) (payloadOf p) h k a own r er (ltb-true r roomCount e)
           go r er false e = a
 
-      cond-alike : (b : Bool) (x y v w : Step) → AlikeStep x v → AlikeStep y w → AlikeStep (cond b x y) (cond b v w)
+      cond-alike : (b : Bool) (x y v w : AfterStep) → AlikeStep x v → AlikeStep y w → AlikeStep (cond b x y) (cond b v w)
       cond-alike true x y v w a c = a
       cond-alike false x y v w a c = c
 
@@ -148,7 +148,7 @@ module _ (mine : ℕ → Bool) where
           cond-alike (scrambledBits p) _ _ _ _
           (with-tables h k (droppedRoom (roomFor (h .core) (pidOf p)) h) (droppedRoom (roomFor (k .core) (pidOf p)) k) cs ds a (own-dropped mine closed h k (a .held) (pidOf p) own))
           (cond-alike take _ _ _ _
-          (with-tables h k (payloadTaken t (roomFor (h .core) (pidOf p)) p h .held) (payloadTaken t (roomFor (k .core) (pidOf p)) p k .held) cs ds a (own-payload h k (a .held)))
+          (with-tables h k (payloadTaken (arrival t (roomFor (h .core) (pidOf p)) (pidOf p)) p h .held) (payloadTaken (arrival t (roomFor (k .core) (pidOf p)) (pidOf p)) p k .held) cs ds a (own-payload h k (a .held)))
           a)
 
       -- the same byte laid into both tables
@@ -163,7 +163,7 @@ module _ (mine : ℕ → Bool) where
           go false z g = getD-set-other cs q i b 0 (eqb-false i q z) ∙ e ∙ sym (getD-set-other ds q i b 0 (eqb-false i q z))
 
       -- step 4 by its judgement j
-      abbrev step4-by : Counted → List ℕ → Held → Step
+      abbrev step4-by : Counted → List ℕ → Held → AfterStep
       step4-by j cs h =
           also (packetEvents t p (cond (j .event) (continuityError ∷ []) []))
           (step5 t p (j .take) (set cs (pidOf p) (j .byte)) (cond (j .keep) h (droppedRoom (roomFor (h .core) (pidOf p)) h)))

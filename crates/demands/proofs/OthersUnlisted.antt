@@ -18,7 +18,7 @@ use Rattle.calls.proofs.Known.{KnownBytes, known-counted}
 use Rattle.demands.proofs.OthersPids.{table-pid}
 
 -- PID 0 alone has the PAT's room
-not-pat : (c : Core) (q : ℕ) → q ≢ patPid → roomFor c q ≢ patRoom
+pub not-pat : (c : Core) (q : ℕ) → q ≢ patPid → roomFor c q ≢ patRoom
 not-pat c q apart e = apart (sym (subst (λ (r : ℕ). r < 5 → tableOf r .pid ≡ q) e (table-pid c q) (omega arith)))
 
 -- A PACKET of another PID than 0

@@ -17,13 +17,10 @@ use Rattle.calls.specs.Cores.{listed}
 use Rattle.calls.specs.Steps.{touched, listedBy}
 use Rattle.demands.specs.Listening.{Heard, page, paired, pairOf, pairsIn, pageHeard}
 use Rattle.demands.specs.Judgements.{Watched, fixed, programme, changed, actsOf, actsOfAll}
+use Rattle.demands.specs.Pages.{found}
 use Rattle.demands.proofs.Lists.{renewed, listOf-renewed}
 
 -- THE WATCH
-unfoldable pub found : ℕ → ℕ → List Entry → Watch
-found n q [] = off
-found n q (e ∷ es) = cond (isPair n q e) (on (e .since)) (found n q es)
-
 abbrev pub watchBy : Watched → List ℕ → List Entry → Watch
 watchBy (fixed k) ss es = on (getD ss k 0)
 watchBy (programme n q) ss es = found n q es

@@ -1,11 +1,14 @@
 -- The table of refusals, in its own words: document 01, "The calls and their numbers", and demand 2 of the request.
 --
---   PacketWrong, TableWrong, ListShort, TimeAbove == the conditions 1 to 4; OrderWrong == the condition 6
+--   PacketWrong, TableWrong, ListShort, TimeAbove == the conditions 1 to 4
+--   OrderWrong       == the condition 6
+--   entryAt es k     == the listed programme at the place k
 --   ListWrong es     == what of number 5 is said of listed programmes
 --   RoomWrong r ns m == half-built bytes of the room r that already make a whole section or break the section_length rule
 --   StateWrong s m   == what is said of the state
 --   ByteWrong b      == the table byte of the packet's PID is not 0, 16..31 or 48..63
 --   Rung k C next n  == the number n is k where the condition C holds, and what the next rungs say where it does not
+--   Accepted n       == the last rung: n is 0
 --   OpenNumber, PacketNumber, ClockNumber == the numbers of each call: the lowest wins, and none is 0, accepted
 --   SeverityNumber   == that of severity
 --   ownEvents g c    == the events of steps 1 to 5, in their order; a clock call has none
@@ -18,7 +21,7 @@ use lib.ListN.{length, getD}
 use Rattle.lateness.specs.Logs.{Call, clock, packet}
 use Rattle.severity.specs.Severity as severity
 use Rattle.events.specs.declared.Event.{Event}
-use Rattle.events.specs.Room.{leastRoom}
+use Rattle.events.specs.Capacity.{leastCapacity}
 use Rattle.watches.specs.declared.Entry.{Entry}
 use Rattle.watches.specs.Tables.{noEntry, latestTime}
 use Rattle.header.specs.Header.{packetSize, pidOf}
@@ -42,7 +45,7 @@ abbrev pub TableWrong : List ℕ → Type 0
 TableWrong counters = length counters ≡ tableSize → ⊥
 
 abbrev pub ListShort : ℕ → Type 0
-ListShort room = room < leastRoom
+ListShort capacity = capacity < leastCapacity
 
 abbrev pub TimeAbove : ℕ → Type 0
 TimeAbove t = latestTime < t
@@ -90,14 +93,14 @@ abbrev pub OpenNumber : ℕ → List ℕ → ℕ → Type 0
 OpenNumber t counters = Rung 2 (TableWrong counters) (Rung 4 (TimeAbove t) Accepted)
 
 abbrev pub PacketNumber : State → ℕ → List ℕ → List ℕ → List ℕ → ℕ → ℕ → Type 0
-PacketNumber s t p counters m room =
+PacketNumber s t p counters m capacity =
     Rung 1 (PacketWrong p)
     (Rung 2 (TableWrong counters)
-    (Rung 3 (ListShort room)
+    (Rung 3 (ListShort capacity)
     (Rung 4 (TimeAbove t) (Rung 5 (StateWrong s m ⊎ ByteWrong (getD counters (pidOf p) 0)) (Rung 6 (OrderWrong s t) Accepted)))))
 
 abbrev pub ClockNumber : State → ℕ → List ℕ → ℕ → ℕ → Type 0
-ClockNumber s t m room = Rung 3 (ListShort room) (Rung 4 (TimeAbove t) (Rung 5 (StateWrong s m) (Rung 6 (OrderWrong s t) Accepted)))
+ClockNumber s t m capacity = Rung 3 (ListShort capacity) (Rung 4 (TimeAbove t) (Rung 5 (StateWrong s m) (Rung 6 (OrderWrong s t) Accepted)))
 
 abbrev pub SeverityNumber : ℕ → ℕ → Type 0
 SeverityNumber kind = Rung 7 (length severity.table ≤ kind) Accepted

@@ -4,14 +4,19 @@
 --   limitsOf, faultOf, idOf w == its limits, the fault of its lateness, and the id of its events: the PID, for a PMT the programme number
 --   IsWatched w       == there are five fixed tables
 -- Live, from the calls:
---   lateFor f i es    == the late events, cause 1, among es that have the fault f and the id i
---   isListed w c      == a fixed table is always watched, a pair while the list has it
---   lateBy w room g c == its late events among those that the call c hands over, where it is watched before the call
---   liveLate w room g cs == those of all calls of a log
---   isNamed f i c     == a fixed table, or a listed programme, has the fault f and the id i
+--   isLate f i e      == the event e is a late one, cause 1, with the fault f and the id i
+--   lateFor f i es    == the events among es that are
+--   onWatch w c      == a fixed table is always watched, a pair while the list has it
+--   lateBy w g a      == its late events among those that the call a hands over, where it is watched before the call
+--   lateEach w g log  == those of each call of a log
+--   liveLate w g log  == those of all calls of a log
+--   tableNamed f i rs == one of the tables rs has the fault f and the id i
+--   isNamed f i c     == a fixed table, or a listed programme, has
 -- The other, from the packets:
---   actsOf w h        == what befalls the watch by what is heard: a good section of its table arrives; it begins when a list has its pair and
---                        the one before had not; it ends when a list lacks its pair and the one before had it
+--   changed before now == what befalls a pair's watch by a list: it begins when the list has the pair and the one before had not; it ends when
+--                        the list lacks it and the one before had it
+--   actsOf w h        == what befalls the watch by what is heard: a good section of its table arrives, or a list changes it
+--   actsOfAll w hs    == the same by all that is heard, one after the other
 --   seenBy w l cs     == what the watch sees of a log: each call's time, then the acts of its packet
 --   watchedFrom w t   == at an opening at t: a fixed table's watch begins, no programme is watched
 --   livesOf w t m cs  == its lives: the beginnings and ends of its watch, the arrivals of its good sections, and the latest time
@@ -21,7 +26,7 @@
 --   arrivalsOf k l cs == the arrival times of its good sections
 --   latestOf t cs     == the latest accepted time
 use mathlib.Core.Bool.{Bool, true, false, cond, _&&_, _||_}
-use mathlib.Core.List.{List, [], _∷_, _++_, map}
+use mathlib.Core.List.{List, [], _∷_, _++_, map, flatten}
 use Prim.Native.Nat.{ℕ, _<_}
 use lib.Dec.{eqb}
 use lib.ListN.{length}
@@ -35,7 +40,7 @@ use Rattle.watches.specs.Tables.{fixedTables, tableOf, pmtTable}
 use Rattle.calls.specs.declared.Core.{Core}
 use Rattle.calls.specs.Cores.{listed}
 use Rattle.calls.specs.Sound.{numberAmong}
-use Rattle.demands.specs.Runs.{Given, callOf, afterCall}
+use Rattle.demands.specs.Runs.{Given, Asked, callOf, along}
 use Rattle.demands.specs.Listening.{Listener, Heard, table, page, index, paired, pairOf, listen1, openedListener}
 
 pub data Watched : Type 0 where
@@ -66,16 +71,18 @@ unfoldable pub lateFor : ℕ → ℕ → List Event → List Event
 lateFor f i [] = []
 lateFor f i (e ∷ es) = cond (isLate f i e) (e ∷ lateFor f i es) (lateFor f i es)
 
-abbrev pub isListed : Watched → Core → Bool
-isListed (fixed k) c = true
-isListed (programme n q) c = paired n q (map pairOf (listed c))
+abbrev pub onWatch : Watched → Core → Bool
+onWatch (fixed k) c = true
+onWatch (programme n q) c = paired n q (map pairOf (listed c))
 
-abbrev pub lateBy : Watched → ℕ → Given → Call (List ℕ) → List Event
-lateBy w room g c = cond (isListed w (g .state .core)) (lateFor (faultOf w) (idOf w) (callOf room g c .events)) []
+abbrev pub lateBy : Watched → Given → Asked → List Event
+lateBy w g a = cond (onWatch w (g .state .core)) (lateFor (faultOf w) (idOf w) (callOf g a .events)) []
 
-abbrev pub liveLate : Watched → ℕ → Given → List (Call (List ℕ)) → List Event
-liveLate w room g [] = []
-liveLate w room g (c ∷ cs) = lateBy w room g c ++ liveLate w room (afterCall room g c) cs
+abbrev pub lateEach : Watched → Given → List Asked → List (List Event)
+lateEach w g log = along (lateBy w) g log
+
+abbrev pub liveLate : Watched → Given → List Asked → List Event
+liveLate w g log = flatten (lateEach w g log)
 
 unfoldable pub tableNamed : ℕ → ℕ → List Table → Bool
 tableNamed f i [] = false

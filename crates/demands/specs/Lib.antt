@@ -5,3 +5,4 @@ pub mod Pages
 pub mod Refused
 pub mod Conditions
 pub mod Others
+pub mod Whole

@@ -1,39 +1,31 @@
 -- Refused calls of a log: demand 1 of the request ("It hands back the state it was given, reports no event and writes nothing into lent
 -- memory").
 --
---   Refused room g c     == the call c, given g, answers another number than 0
---   HandedBack room g c  == the call after it is given what it was given: state, counter table and section memory; it has no event; its answer
---                           is its number, n = 0 and the given state; and a lent event list is as it was
---   afterCalls room g cs == what the call after a log is given
---   eventLog room g cs   == the events of a log's calls, one after the other
---   taken room g cs      == the calls of a log that are accepted
+--   Refused g a      == the call a, given g, answers another number than 0
+--   HandedBack g a   == the call after it is given what it was given: state, section memory and the log's own counter table; the counter table
+--                       that it was lent is as it was; it has no event; its answer is its number, n = 0 and the given state; and a lent
+--                       event list is as it was
+--   afterCalls g log == what the call after a log is given
+--   eventLog g log   == the events of a log's calls, one after the other
 use mathlib.Core.Path.{_≡_}
-use mathlib.Core.List.{List, [], _∷_, _++_}
-use Prim.Native.Nat.{ℕ}
-use lib.Dec.{eqb}
-use Rattle.lateness.specs.Gaps.{keep}
-use Rattle.lateness.specs.Logs.{Call}
+use mathlib.Core.List.{List, [], _∷_, flatten}
 use Rattle.events.specs.declared.Event.{Event}
 use Rattle.calls.specs.Calls.{answerOf, handedOver}
-use Rattle.demands.specs.Runs.{Given, callOf, afterCall}
+use Rattle.demands.specs.Runs.{Given, Asked, lentTable, callOf, tableAfter, afterCall, IsAccepted, along}
 
-abbrev pub Refused : ℕ → Given → Call (List ℕ) → Type 0
-Refused room g c = callOf room g c .refusal ≡ 0 → ⊥
+abbrev pub Refused : Given → Asked → Type 0
+Refused g a = IsAccepted g a → ⊥
 
-pub record HandedBack (room : ℕ) (g : Given) (c : Call (List ℕ)) : Type 0 where
-  pub given : afterCall room g c ≡ g
-  pub silent : callOf room g c .events ≡ []
-  pub answer : answerOf (callOf room g c) ≡ record { refusal = callOf room g c .refusal; n = 0; state = g .state }
-  pub list : (old : List Event) → handedOver (callOf room g c .events) old ≡ old
+pub record HandedBack (g : Given) (a : Asked) : Type 0 where
+  pub given : afterCall g a ≡ g
+  pub table : tableAfter g a ≡ lentTable (a .table) (g .counters)
+  pub silent : callOf g a .events ≡ []
+  pub answer : answerOf (callOf g a) ≡ record { refusal = callOf g a .refusal; n = 0; state = g .state }
+  pub list : (old : List Event) → handedOver (callOf g a .events) old ≡ old
 
-abbrev pub afterCalls : ℕ → Given → List (Call (List ℕ)) → Given
-afterCalls room g [] = g
-afterCalls room g (c ∷ cs) = afterCalls room (afterCall room g c) cs
+abbrev pub afterCalls : Given → List Asked → Given
+afterCalls g [] = g
+afterCalls g (a ∷ log) = afterCalls (afterCall g a) log
 
-abbrev pub eventLog : ℕ → Given → List (Call (List ℕ)) → List Event
-eventLog room g [] = []
-eventLog room g (c ∷ cs) = callOf room g c .events ++ eventLog room (afterCall room g c) cs
-
-abbrev pub taken : ℕ → Given → List (Call (List ℕ)) → List (Call (List ℕ))
-taken room g [] = []
-taken room g (c ∷ cs) = keep (eqb (callOf room g c .refusal) 0) c (taken room (afterCall room g c) cs)
+abbrev pub eventLog : Given → List Asked → List Event
+eventLog g log = flatten (along (λ k a. callOf k a .events) g log)

@@ -5,3 +5,4 @@ pub mod Programmes
 pub mod Steps
 pub mod Tables
 pub mod Lives
+pub mod PinnedCalls

@@ -1,15 +1,15 @@
 -- The numbers by which a host lends memory, as document 01 and docs/DECISIONS.md have them: each stands once as a definition, and here as a figure.
 -- Assumes nothing.
 use mathlib.Core.Path.{_≡_, refl}
-use Rattle.events.specs.Room.{recordWidth, leastRoom, numberRoom, mostEvents}
+use Rattle.events.specs.Capacity.{recordWidth, leastCapacity, numberCapacity, mostEvents}
 use Rattle.watches.specs.Tables.{fixedCount}
 use Rattle.sections.specs.Rooms.{memorySize, roomCount, roomBase}
 use Rattle.programmes.specs.Listing.{mostListed}
 
 pub record Table : Type 0 where
   pub numbers-of-an-event : recordWidth ≡ 4
-  pub records-at-least : leastRoom ≡ 96
-  pub numbers-of-scratch : numberRoom ≡ 384
+  pub records-at-least : leastCapacity ≡ 96
+  pub numbers-of-scratch : numberCapacity ≡ 384
   pub events-at-most : mostEvents ≡ 87
   pub fixed-tables : fixedCount ≡ 5
   pub programmes-at-most : mostListed ≡ 16

@@ -15,7 +15,7 @@ use Rattle.sections.specs.Section.{stageOf}
 use Rattle.sections.specs.Building.{fed, built}
 use Rattle.sections.specs.Outcomes.{crcWrong, wholeOutcome}
 use Rattle.programmes.specs.Listing.{isNumber, entryFor, readOn, listOf}
-use Rattle.programmes.specs.Places.{placeOf, movedFrom, movedPlaces}
+use Rattle.programmes.specs.Places.{placeOf, placesFrom}
 use Rattle.calls.specs.declared.Core.{Core}
 use Rattle.calls.specs.Cores.{fixedRoom, roomFor, lateOf}
 use Rattle.calls.specs.Steps.{absorbedAll, sectionsTaken, step1}
@@ -78,7 +78,7 @@ pub record Table : Type 0 where
   pub not-yet-current : patSince (begun 5 0 (starting (sealed (0x00 ∷ 0xB0 ∷ 0x0D ∷ 0x00 ∷ 0x01 ∷ 0xC0 ∷ 0x00 ∷ 0x00 ∷ entry 1 0x100))) ∷ []) ≡ 0 ∷ []
 
 pub table : Table
-unfolding resultsFrom packetCall clockCall packetRefusal clockRefusal openRefusal stateSound timesSound entriesSound numberAmong roomsFrom lateOf rowsLate tableRows roomFor fixedRoom placeOf step1 sectionsTaken absorbedAll built fed stageOf part wholeOutcome crcWrong crcOf crcFeed crcStep bits bitsOf headerOf countedOf listOf readOn isNumber entryFor movedFrom movedPlaces
+unfolding resultsFrom packetCall clockCall packetRefusal clockRefusal openRefusal stateSound timesSound entriesSound numberAmong roomsFrom lateOf rowsLate tableRows roomFor fixedRoom placeOf step1 sectionsTaken absorbedAll built fed stageOf part wholeOutcome crcWrong crcOf crcFeed crcStep bits bitsOf headerOf countedOf listOf readOn isNumber entryFor placesFrom
 table =
     record {
       judged-with-the-third-byte = refl;

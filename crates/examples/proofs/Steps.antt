@@ -8,7 +8,7 @@ use Rattle.lists.specs.Places.{part}
 use Rattle.lateness.specs.Logs.{Call, packet}
 use Rattle.events.specs.declared.Event.{Event}
 use Rattle.events.specs.Events.{eventAt}
-use Rattle.events.specs.Room.{leastRoom}
+use Rattle.events.specs.Capacity.{leastCapacity}
 use Rattle.watches.specs.Late.{rowsLate, tableRows}
 use Rattle.header.specs.Header.{headerOf}
 use Rattle.continuity.specs.Continuity.{countedOf}
@@ -16,7 +16,7 @@ use Rattle.sections.specs.Section.{stageOf}
 use Rattle.sections.specs.Building.{fed, built}
 use Rattle.sections.specs.Outcomes.{crcWrong, wholeOutcome}
 use Rattle.programmes.specs.Listing.{isNumber, entryFor, readOn, listOf}
-use Rattle.programmes.specs.Places.{placeOf, movedFrom, movedPlaces}
+use Rattle.programmes.specs.Places.{placeOf, placesFrom}
 use Rattle.calls.specs.declared.Core.{Core}
 use Rattle.calls.specs.Cores.{fixedRoom, roomFor, lateOf, openedState}
 use Rattle.calls.specs.Steps.{absorbedAll, sectionsTaken, step1}
@@ -87,12 +87,12 @@ pub record Table : Type 0 where
   -- K8: the transport error bit is looked at before PID 0x1FFF
   pub error-before-null : events (packet 0 (0x47 ∷ 0x9F ∷ 0xFF ∷ 0x10 ∷ replicate 184 0) ∷ []) ≡ (eventAt 0 0x0011 0 0x1FFF ∷ []) ∷ []
   -- C1: all that is wrong at once, and then each put right in turn
-  pub lowest-number-wins : refusalOf 4 [] [] 0 ∷ refusalOf (suc (2 ^ 62)) (replicate 188 0) [] 0 ∷ refusalOf (suc (2 ^ 62)) (replicate 188 0) zeros (leastRoom - 1) ∷ refusalOf (suc (2 ^ 62)) (replicate 188 0) zeros leastRoom ∷ refusalOf 4 (replicate 188 0) (1 ∷ replicate 8191 0) leastRoom ∷ refusalOf 4 (replicate 188 0) zeros leastRoom ∷ refusalOf 5 (replicate 188 0) zeros leastRoom ∷ [] ≡ 1 ∷ 2 ∷ 3 ∷ 4 ∷ 5 ∷ 6 ∷ 0 ∷ []
+  pub lowest-number-wins : refusalOf 4 [] [] 0 ∷ refusalOf (suc (2 ^ 62)) (replicate 188 0) [] 0 ∷ refusalOf (suc (2 ^ 62)) (replicate 188 0) zeros (leastCapacity - 1) ∷ refusalOf (suc (2 ^ 62)) (replicate 188 0) zeros leastCapacity ∷ refusalOf 4 (replicate 188 0) (1 ∷ replicate 8191 0) leastCapacity ∷ refusalOf 4 (replicate 188 0) zeros leastCapacity ∷ refusalOf 5 (replicate 188 0) zeros leastCapacity ∷ [] ≡ 1 ∷ 2 ∷ 3 ∷ 4 ∷ 5 ∷ 6 ∷ 0 ∷ []
   -- opening: 2 before 4
   pub table-before-time : openRefusal (suc (2 ^ 62)) [] ∷ openRefusal (suc (2 ^ 62)) zeros ∷ openRefusal (2 ^ 62) zeros ∷ [] ≡ 2 ∷ 4 ∷ 0 ∷ []
 
 pub table : Table
-unfolding resultsFrom packetCall clockCall packetRefusal clockRefusal openRefusal stateSound timesSound entriesSound numberAmong roomsFrom lateOf rowsLate tableRows roomFor fixedRoom placeOf step1 sectionsTaken absorbedAll built fed stageOf part wholeOutcome crcWrong crcOf crcFeed crcStep bits bitsOf headerOf countedOf listOf readOn isNumber entryFor movedFrom movedPlaces
+unfolding resultsFrom packetCall clockCall packetRefusal clockRefusal openRefusal stateSound timesSound entriesSound numberAmong roomsFrom lateOf rowsLate tableRows roomFor fixedRoom placeOf step1 sectionsTaken absorbedAll built fed stageOf part wholeOutcome crcWrong crcOf crcFeed crcStep bits bitsOf headerOf countedOf listOf readOn isNumber entryFor placesFrom
 table =
     record {
       repeat-with-wrong-length = refl;

@@ -9,7 +9,7 @@ use Rattle.lists.specs.Places.{part}
 use Rattle.lateness.specs.Logs.{Call, packet}
 use Rattle.events.specs.declared.Event.{Event}
 use Rattle.events.specs.Events.{eventAt}
-use Rattle.events.specs.Room.{leastRoom}
+use Rattle.events.specs.Capacity.{leastCapacity}
 use Rattle.watches.specs.declared.Entry.{Entry}
 use Rattle.watches.specs.Tables.{noEntry}
 use Rattle.watches.specs.Late.{rowsLate, tableRows}
@@ -20,7 +20,7 @@ use Rattle.sections.specs.Building.{fed, built}
 use Rattle.sections.specs.Outcomes.{crcWrong, wholeOutcome}
 use Rattle.sections.specs.Rooms.{roomCount}
 use Rattle.programmes.specs.Listing.{isNumber, entryFor, readOn, listOf}
-use Rattle.programmes.specs.Places.{placeOf, movedFrom, movedPlaces}
+use Rattle.programmes.specs.Places.{placeOf, placesFrom}
 use Rattle.calls.specs.declared.Core.{Core}
 use Rattle.calls.specs.declared.State.{State}
 use Rattle.calls.specs.Cores.{fixedRoom, roomFor, lateOf, openedState}
@@ -75,7 +75,7 @@ abbrev memory : List ℕ
 memory = replicate 23552 0 ++ (0x02 ∷ 0xB3 ∷ 0xFF ∷ replicate 1021 0)
 
 abbrev clockOn : State → List ℕ → ℕ
-clockOn s m = clockRefusal s 9 m leastRoom
+clockOn s m = clockRefusal s 9 m leastCapacity
 
 pub record Table : Type 0 where
   -- S8: NIT other and SDT other on their PIDs end no gap and give nothing; a torn section of any table_id is seen
@@ -101,10 +101,10 @@ pub record Table : Type 0 where
   pub a-gap-start-to-come : clockOn (forged 5 (set gaps 4 7) 0 noEntry noHalf) [] ≡ 0
   pub an-entry-behind-the-list : clockOn (forged 5 gaps 0 (programme 0 0x1FFF (suc (2 ^ 62))) noHalf) [] ≡ 0
   -- C2: the table byte is looked at where the packet is judged no further: a wrong first byte
-  pub byte-of-a-wrong-packet : packetRefusal (openedState 0) 0 (replicate 188 0) (1 ∷ replicate 8191 0) [] leastRoom ≡ 5
+  pub byte-of-a-wrong-packet : packetRefusal (openedState 0) 0 (replicate 188 0) (1 ∷ replicate 8191 0) [] leastCapacity ≡ 5
 
 pub table : Table
-unfolding resultsFrom packetCall clockCall packetRefusal clockRefusal openRefusal stateSound timesSound entriesSound numberAmong roomsFrom lateOf rowsLate tableRows roomFor fixedRoom placeOf step1 sectionsTaken absorbedAll built fed stageOf part wholeOutcome crcWrong crcOf crcFeed crcStep bits bitsOf headerOf countedOf listOf readOn isNumber entryFor movedFrom movedPlaces
+unfolding resultsFrom packetCall clockCall packetRefusal clockRefusal openRefusal stateSound timesSound entriesSound numberAmong roomsFrom lateOf rowsLate tableRows roomFor fixedRoom placeOf step1 sectionsTaken absorbedAll built fed stageOf part wholeOutcome crcWrong crcOf crcFeed crcStep bits bitsOf headerOf countedOf listOf readOn isNumber entryFor placesFrom
 table =
     record {
       foreign-tables-are-silent = refl;

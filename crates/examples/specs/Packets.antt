@@ -2,19 +2,23 @@
 --
 --   stuffed n l         == l, filled up to n bytes with 0xFF
 --   packetOf            == a packet without adaptation field: first byte, unit start, PID, counter, payload
+--   adapted             == a packet with an adaptation field: PID, control, its length and its flags byte, counter, payload
 --   sealed s            == a section with its CRC_32
---   patOf es            == a PAT section of the entries' bytes es; entry n q: the bytes of one entry
+--   entry n q           == the bytes of an entry of a PAT: the programme number n on the PID q
+--   patOf es            == a PAT section of the entries' bytes es
 --   pmtOf n             == a PMT section of the programme n
---   longTable id        == a section of another table_id, indicator 1, with its CRC_32; shortTable id n: indicator 0, section_length n
+--   longTable id        == a section of another table_id, indicator 1, with its CRC_32
+--   shortTable id n     == one with indicator 0 and section_length n
 --   starting s          == the payload of a packet that the section s begins
---   results, refusals, events, cores == of the calls of a log from an opening at 0, one by one
+--   resultsFrom         == the results of the calls of a log, each given the state, the counter table and the section memory of the one before
+--   resultsOf, refusals, events, cores == those of a log from an opening at 0, their numbers, events and cores, one by one
 use Prim.Native.Nat.{ℕ, _+_, _-_, _*_, _/_, _%_}
 use mathlib.Core.List.{List, [], _∷_, _++_, map}
 use lib.ListN.{length, replicate}
 use Rattle.crc.specs.Crc.{crcOf, crcBytes}
 use Rattle.lateness.specs.Logs.{Call, clock, packet}
 use Rattle.events.specs.declared.Event.{Event}
-use Rattle.events.specs.Room.{leastRoom}
+use Rattle.events.specs.Capacity.{leastCapacity}
 use Rattle.sections.specs.Rooms.{memorySize}
 use Rattle.calls.specs.declared.State.{State}
 use Rattle.calls.specs.declared.Core.{Core}
@@ -27,7 +31,6 @@ stuffed n l = l ++ replicate (n - length l) 0xFF
 abbrev pub packetOf : ℕ → ℕ → ℕ → ℕ → List ℕ → List ℕ
 packetOf first start pid counter load = first ∷ (start * 64 + pid / 256) ∷ (pid % 256) ∷ (16 + counter) ∷ stuffed 184 load
 
--- with an adaptation field: PID, control, its length and its flags byte, counter, payload
 abbrev pub adapted : ℕ → ℕ → ℕ → ℕ → ℕ → List ℕ → List ℕ
 adapted pid control len flags counter load = 0x47 ∷ (pid / 256) ∷ (pid % 256) ∷ (control * 16 + counter) ∷ len ∷ flags ∷ stuffed 182 load
 
@@ -52,24 +55,23 @@ shortTable id n = id ∷ 0x70 ∷ n ∷ replicate n 0x00
 abbrev pub starting : List ℕ → List ℕ
 starting s = 0 ∷ s
 
--- the results of the calls of a log, each given the state, the counter table and the section memory of the one before
 unfoldable pub resultsFrom : State → List ℕ → List ℕ → List (Call (List ℕ)) → List Result
 resultsFrom s counters m [] = []
 resultsFrom s counters m (clock t ∷ cs) =
-    let r = clockCall s t m leastRoom in
+    let r = clockCall s t m leastCapacity in
     r ∷ resultsFrom (r .state) counters (r .memory) cs
 resultsFrom s counters m (packet t p ∷ cs) =
-    let r = packetCall s t p counters m leastRoom in
+    let r = packetCall s t p counters m leastCapacity in
     r ∷ resultsFrom (r .state) (r .counters) (r .memory) cs
 
-abbrev pub results : List (Call (List ℕ)) → List Result
-results cs = resultsFrom (openedState 0) (replicate tableSize 0) (replicate memorySize 0) cs
+abbrev pub resultsOf : List (Call (List ℕ)) → List Result
+resultsOf cs = resultsFrom (openedState 0) (replicate tableSize 0) (replicate memorySize 0) cs
 
 abbrev pub refusals : List (Call (List ℕ)) → List ℕ
-refusals cs = map (λ (r : Result). r .refusal) (results cs)
+refusals cs = map (λ (r : Result). r .refusal) (resultsOf cs)
 
 abbrev pub events : List (Call (List ℕ)) → List (List Event)
-events cs = map (λ (r : Result). r .events) (results cs)
+events cs = map (λ (r : Result). r .events) (resultsOf cs)
 
 abbrev pub cores : List (Call (List ℕ)) → List Core
-cores cs = map (λ (r : Result). r .state .core) (results cs)
+cores cs = map (λ (r : Result). r .state .core) (resultsOf cs)

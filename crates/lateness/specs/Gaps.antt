@@ -1,6 +1,7 @@
 -- Two judgements of one watched table's lateness: document 01, "Watches and lateness", and demand 3 of the request. Times and limits are
 -- ticks; a watch has any list of limits, here and in all that follows.
 --
+--   keep b x l            == x in front of the list l where the test b holds
 -- From the gaps, as the other judgement sees them:
 --   gap ls a e            == a gap from a to e gives a stamp for each limit that it is strictly longer than: its start plus the limit
 --   gaps ls b as e        == the gaps of a watch that began at b, whose good sections arrived at the times as, up to e
@@ -11,12 +12,17 @@
 --                            those that t is the first to exceed, p ≤ stamp < t
 --   Watch                 == off, or on with the start of its present gap
 --   Act                   == what befalls a watch at a moment: it begins, a good section of its table arrives, it ends
+--   dueOf ls w p t        == those of a watch w: none where it is off
 --   after t w a           == the watch after an act at t
+--   acted t w az          == after some acts at t
 --   Seen                  == what a watch sees: time goes on to t; an act at the present time
 --   live ls p w os        == the stamps handed over, from the time p and the watch w on
 -- Between the two:
---   lives p v os          == the lives that are read off what the watch sees; v: not watched, or watched since b with arrivals so far
---   Rising ls             == each limit is at least the one before
+--   View                  == not watched, or watched since b with arrivals so far
+--   lived b as e          == the life of a watch that began at b and ended at e
+--   lives p v os          == the lives that are read off what the watch sees, from the view v on
+--   viewOf w              == the view of a watch: its present gap is all that it knows
+--   RisingFrom x ls, Rising ls == each limit is at least the one before, the first at least x; at least 0
 --   Ordered p os          == times never fall
 --   Fresh p w             == at an opening at p: off, or its first gap begins there
 use mathlib.Core.Path.{_≡_}
@@ -25,7 +31,6 @@ use mathlib.Core.List.{List, [], _∷_, _++_}
 use Prim.Native.Nat.{ℕ, _+_, _-_, _≤_}
 use lib.Dec.{ltb, leb}
 
--- x in front of the list where the test holds
 abbrev pub keep : {A : Type 0} → Bool → A → List A → List A
 keep true x l = x ∷ l
 keep false x l = l

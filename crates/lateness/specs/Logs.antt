@@ -2,9 +2,9 @@
 -- consequence of document 01, "Watches and lateness".
 --
 --   Call X            == a clock call at t, or a packet call at t with the packet x
+--   timeOf c          == the call's time
 --   seen              == what one watch sees of a log: each call's time, then the acts of its packet
---   only f cs         == the log with every packet that fails the test replaced by a clock call at the same time
---   Every P cs        == every packet of the log is as P says
+--   orClock b t x     == the packet x at t, or where the test fails a clock call at the same time
 use mathlib.Core.Bool.{Bool, true, false}
 use mathlib.Core.List.{List, [], _∷_, _++_, map}
 use Prim.Native.Nat.{ℕ}
@@ -27,13 +27,3 @@ module _ {K X : Type 0} (next : K → ℕ → X → K) where
 abbrev pub orClock : {X : Type 0} → Bool → ℕ → X → Call X
 orClock true t x = packet t x
 orClock false t x = clock t
-
-abbrev pub only : {X : Type 0} → (X → Bool) → List (Call X) → List (Call X)
-only f [] = []
-only f (clock t ∷ cs) = clock t ∷ only f cs
-only f (packet t x ∷ cs) = orClock (f x) t x ∷ only f cs
-
-abbrev pub Every : {X : Type 0} → (X → Type 0) → List (Call X) → Type 0
-Every P [] = Unit
-Every P (clock t ∷ cs) = Every P cs
-Every P (packet t x ∷ cs) = P x × Every P cs

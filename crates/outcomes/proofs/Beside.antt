@@ -12,18 +12,18 @@ use Rattle.programmes.specs.Listing.{nullPid}
 use Rattle.calls.specs.declared.State.{State}
 use Rattle.calls.specs.Cores.{Held, roomFor, droppedRoom}
 use Rattle.calls.specs.Sync.{syncedOf}
-use Rattle.calls.specs.Steps.{Step, counted, step1, step2, step4, step5}
+use Rattle.calls.specs.Steps.{AfterStep, counted, step1, step2, step4, step5}
 use Rattle.calls.specs.Calls.{Result, heldOf, packetCall, packetRefusal}
 
 module _ (t : ℕ) (p counters : List ℕ) (q : ℕ) (other : q ≡ pidOf p → ⊥) where
   -- the byte is as it was
-  abbrev Kept : Step → Type 0
+  abbrev Kept : AfterStep → Type 0
   Kept s = getD (s .counters) q 0 ≡ getD counters q 0
 
   step5-counters : (take : Bool) (after : List ℕ) (h : Held) → step5 t p take after h .counters ≡ after
   step5-counters take after h =
-      cond-either (λ (s : Step). s .counters ≡ after) (scrambledBits p) _ _ refl
-      (cond-either (λ (s : Step). s .counters ≡ after) take _ _ refl refl)
+      cond-either (λ (s : AfterStep). s .counters ≡ after) (scrambledBits p) _ _ refl
+      (cond-either (λ (s : AfterStep). s .counters ≡ after) take _ _ refl refl)
 
   kept-4 : (h : Held) → Kept (step4 t p counters h)
   kept-4 h =
@@ -40,8 +40,8 @@ module _ (t : ℕ) (p counters : List ℕ) (q : ℕ) (other : q ≡ pidOf p → 
       cond-either Kept (syncedOf (rightSync p) (h .core) .further) _ _
       (kept-2 (record { core = syncedOf (rightSync p) (h .core) .core; memory = h .memory })) refl
 
-  pub other-byte-kept : (s : State) (m : List ℕ) (room : ℕ) → getD (packetCall s t p counters m room .counters) q 0 ≡ getD counters q 0
+  pub other-byte-kept : (s : State) (m : List ℕ) (capacity : ℕ) → getD (packetCall s t p counters m capacity .counters) q 0 ≡ getD counters q 0
   unfolding packetCall
-  other-byte-kept s m room =
-      cond-either (λ (x : Result). getD (x .counters) q 0 ≡ getD counters q 0) (eqb (packetRefusal s t p counters m room) 0) _ _
+  other-byte-kept s m capacity =
+      cond-either (λ (x : Result). getD (x .counters) q 0 ≡ getD counters q 0) (eqb (packetRefusal s t p counters m capacity) 0) _ _
       (kept-1 (heldOf s m)) refl

@@ -10,20 +10,20 @@ use Rattle.lists.specs.Places.{part}
 use Rattle.lateness.specs.Logs.{Call, clock}
 use Rattle.events.specs.declared.Event.{Event}
 use Rattle.events.specs.Events.{eventAt}
-use Rattle.events.specs.Room.{leastRoom}
+use Rattle.events.specs.Capacity.{leastCapacity}
 use Rattle.watches.specs.Late.{rowsLate, tableRows}
 use Rattle.header.specs.Header.{headerOf}
 use Rattle.continuity.specs.Continuity.{countedOf}
 use Rattle.sections.specs.Section.{stageOf}
 use Rattle.sections.specs.Building.{fed, built}
 use Rattle.sections.specs.Outcomes.{crcWrong, wholeOutcome}
-use Rattle.programmes.specs.Places.{placeOf, movedFrom, movedPlaces}
+use Rattle.programmes.specs.Places.{placeOf, placesFrom}
 use Rattle.programmes.specs.Listing.{isNumber, entryFor, readOn, listOf}
 use Rattle.calls.specs.Steps.{absorbedAll, sectionsTaken, step1}
 use Rattle.calls.specs.Sound.{timesSound, numberAmong, entriesSound, roomsFrom, stateSound}
 use Rattle.calls.specs.Calls.{packetRefusal, clockRefusal, packetCall, clockCall}
 use Rattle.calls.specs.Cores.{fixedRoom, roomFor, lateOf}
-use Rattle.demands.specs.Runs.{Given, callOf, afterCall}
+use Rattle.demands.specs.Runs.{Given, callGiven, asking, afterCall}
 use Rattle.examples.specs.Packets.{entry}
 use Rattle.outcomes.specs.Engines.{Outcome, Meets, eventsIn, next, start, records, patAt, pmtAt, plainAt}
 use Rattle.outcomes.proofs.Calls.{listed, listed-second, listed-third}
@@ -41,18 +41,18 @@ abbrev shared : ℕ → Call (List ℕ)
 shared t = patAt t (entry 1 0x100 ++ entry 2 0x100)
 
 abbrev after : Call (List ℕ) → Given
-after c = afterCall leastRoom start c
+after c = afterCall start (asking leastCapacity c)
 
 record Defined : Type 0 where
-  discovered : callOf leastRoom start (clock 20_000_000) .events ≡ patLate 13_500_000 ∷ []
-  late : callOf leastRoom start (clock 13_500_001) .events ≡ patLate 13_500_000 ∷ []
-  given-once : callOf leastRoom (after (clock 13_500_001)) (clock 13_500_002) .events ≡ []
-  still-late : callOf leastRoom (after (plainAt 10)) (clock 13_500_001) .events ≡ patLate 13_500_000 ∷ []
-  other-programme : callOf leastRoom (afterCall leastRoom (after (shared 1)) (pmtAt 5 2)) (clock 13_500_003) .events
+  discovered : callGiven leastCapacity start (clock 20_000_000) .events ≡ patLate 13_500_000 ∷ []
+  late : callGiven leastCapacity start (clock 13_500_001) .events ≡ patLate 13_500_000 ∷ []
+  given-once : callGiven leastCapacity (after (clock 13_500_001)) (clock 13_500_002) .events ≡ []
+  still-late : callGiven leastCapacity (after (plainAt 10)) (clock 13_500_001) .events ≡ patLate 13_500_000 ∷ []
+  other-programme : callGiven leastCapacity (afterCall (after (shared 1)) (asking leastCapacity (pmtAt 5 2))) (clock 13_500_003) .events
       ≡ patLate 13_500_001 ∷ pmtLate 13_500_001 ∷ []
 
 defined : Defined
-unfolding packetCall clockCall packetRefusal clockRefusal stateSound timesSound entriesSound numberAmong roomsFrom lateOf rowsLate tableRows roomFor fixedRoom placeOf step1 sectionsTaken absorbedAll built fed stageOf part wholeOutcome crcWrong crcOf crcFeed crcStep bits bitsOf headerOf countedOf listOf readOn isNumber entryFor movedFrom movedPlaces
+unfolding packetCall clockCall packetRefusal clockRefusal stateSound timesSound entriesSound numberAmong roomsFrom lateOf rowsLate tableRows roomFor fixedRoom placeOf step1 sectionsTaken absorbedAll built fed stageOf part wholeOutcome crcWrong crcOf crcFeed crcStep bits bitsOf headerOf countedOf listOf readOn isNumber entryFor placesFrom
 defined =
     record {
       discovered = refl;

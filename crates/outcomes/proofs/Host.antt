@@ -18,7 +18,7 @@ use lib.ListN.{length}
 use Rattle.events.specs.declared.Event.{Event}
 use Rattle.calls.specs.Calls.{packetCall, clockCall}
 use Rattle.arrays.specs.Lent.{stateIn}
-use Rattle.songpigeon.specs.Lent.{PacketDone, ClockDone}
+use Rattle.songpigeon.specs.Lent.{PacketReplied, ClockReplied}
 use Rattle.songpigeon.proofs.songpigeon_version.Reads as version-contract
 use Rattle.songpigeon.proofs.songpigeon_severity.Reads as severity-contract
 use Rattle.songpigeon.proofs.songpigeon_testdata_descriptor.Reads as descriptor-contract
@@ -53,7 +53,7 @@ packetLeft κs s =
 
 abbrev pub packetPromise : (κs : Lfts 7) → Args packet-contract.signature κs → Res packet-contract.signature κs → AtExit packet-contract.ended κs → Type 0
 packetPromise κs a r s =
-    PacketDone
+    PacketReplied
     (packetCall (stateIn (now (a .0)) (now (a .1 .0))) (a .1 .1 .0) (now (a .1 .1 .1 .0)) (now (a .1 .1 .1 .1 .0)) (now (a .1 .1 .1 .1 .1 .0))
     (length (now (a .1 .1 .1 .1 .1 .1 .1 .0))))
     r (now (a .0)) (now (s .0)) (now (a .1 .0)) (now (s .1 .0)) (now (s .1 .1 .1 .1 .0)) (now (s .1 .1 .1 .1 .1 .0)) (now (a .1 .1 .1 .1 .1 .1 .0))
@@ -65,7 +65,7 @@ clockLeft κs s = record { places = now (s .0) ∷ now (s .1 .0) ∷ now (s .1 .
 
 abbrev pub clockPromise : (κs : Lfts 5) → Args clock-contract.signature κs → Res clock-contract.signature κs → AtExit clock-contract.ended κs → Type 0
 clockPromise κs a r s =
-    ClockDone
+    ClockReplied
     (clockCall (stateIn (now (a .0)) (now (a .1 .0))) (a .1 .1 .0) (now (a .1 .1 .1 .0)) (length (now (a .1 .1 .1 .1 .1 .0))))
     r (now (a .0)) (now (s .0)) (now (a .1 .0)) (now (s .1 .0)) (now (a .1 .1 .1 .1 .0)) (now (s .1 .1 .1 .1 .0)) (now (a .1 .1 .1 .1 .1 .0))
     (now (s .1 .1 .1 .1 .1 .0))

@@ -87,8 +87,8 @@ use Rattle.columns.proofs.put_refused.Reads as put-refused
 use Rattle.columns.proofs.put_header.Reads as put-header
 use Rattle.records.proofs.hand_over as hand-over
 use Rattle.sections.specs.declared.Laid.{Laid}
-use Rattle.sections.specs.Steps.{laidIn}
-use Rattle.records.specs.Handing.{handed}
+use Rattle.sections.specs.inner.Steps.{laidIn}
+use Rattle.records.specs.inner.Handing.{handed}
 use Rattle.arrays.proofs.Kept.{latest-alike, sync-alike, told-alike}
 use Rattle.outcomes.specs.Once.{OneAnswer, OneOutcome}
 use Rattle.outcomes.proofs.Alike.{both, places-2, places-3, places-4, places-5}

@@ -7,6 +7,7 @@ use Prim.Native.Nat.{ℕ}
 use denote.Ref.{now}
 use Rattle.crc.proofs.crc.Reads as crc-contract
 use Rattle.severity.proofs.severity.Reads as severity-contract
+use Rattle.testdata.proofs.Told.{written-alike, reading-alike, step-alike}
 use Rattle.testdata.proofs.read.Reads as read-contract
 use Rattle.testdata.proofs.bytes_of.Reads as bytes-contract
 use Rattle.testdata.proofs.descriptor_at.Reads as descriptor-contract
@@ -22,7 +23,7 @@ use Rattle.textlog.proofs.feed.Reads as feed-contract
 use Rattle.textlog.proofs.finish.Reads as finish-contract
 use Rattle.byvalue.specs.declared.HeldLeast.{HeldLeast}
 use Rattle.textlog.specs.declared.Fed.{Fed}
-use Rattle.textlog.specs.Machine.{Feeding, fedAs}
+use Rattle.textlog.specs.inner.Machine.{Feeding, fedAs}
 use Rattle.outcomes.specs.Once.{OneAnswer, OneOutcome}
 use Rattle.outcomes.proofs.Promises.{Left, packetPromise, packetLeft, clockPromise, clockLeft}
 use Rattle.outcomes.proofs.Alike.{both, places-2, places-4}
@@ -73,12 +74,12 @@ no-second-outcome =
     record {
       crc = λ κs a r r′ s s′ p q. both p q;
       severity = λ κs a r r′ s s′ p q. both p q;
-      testdata-read = λ κs a r r′ s s′ p q. both p q;
+      testdata-read = λ κs a r r′ s s′ p q. reading-alike r r′ (both p q);
       testdata-bytes-of = λ κs a r r′ s s′ p q. both p q;
-      testdata-descriptor-at = λ κs a r r′ s s′ p q. both p q;
-      testdata-write = λ κs a r r′ s s′ p q. (both (p .0) (q .0), both (p .1) (q .1));
-      testdata-write-fixed = λ κs a r r′ s s′ p q. (both (p .0) (q .0), both (p .1) (q .1));
-      testdata-write-other = λ κs a r r′ s s′ p q. (both (p .0) (q .0), both (p .1) (q .1));
+      testdata-descriptor-at = λ κs a r r′ s s′ p q. step-alike r r′ (both p q);
+      testdata-write = λ κs a r r′ s s′ p q. (written-alike r r′ (both (p .0) (q .0)), both (p .1) (q .1));
+      testdata-write-fixed = λ κs a r r′ s s′ p q. (written-alike r r′ (both (p .0) (q .0)), both (p .1) (q .1));
+      testdata-write-other = λ κs a r r′ s s′ p q. (written-alike r r′ (both (p .0) (q .0)), both (p .1) (q .1));
       probe-open = λ κs a r r′ s s′ p q. (both (p .0) (q .0), both (p .1) (q .1));
       probe-packet = λ κs a r r′ s s′ p q. (both (p .0) (q .0), left-alike (packetLeft κs s) (packetLeft κs s′) (both (p .1) (q .1)) (both (p .2) (q .2)) (both (p .3) (q .3)));
       probe-clock = λ κs a r r′ s s′ p q. (both (p .0) (q .0), both (p .1) (q .1));

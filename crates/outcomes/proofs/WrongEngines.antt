@@ -11,14 +11,14 @@ use Rattle.lists.specs.Places.{part}
 use Rattle.lateness.specs.Logs.{Call, clock, packet}
 use Rattle.events.specs.declared.Event.{Event}
 use Rattle.events.specs.Events.{eventAt}
-use Rattle.events.specs.Room.{leastRoom}
+use Rattle.events.specs.Capacity.{leastCapacity}
 use Rattle.watches.specs.Late.{rowsLate, tableRows}
 use Rattle.header.specs.Header.{pidOf, headerOf}
 use Rattle.continuity.specs.Continuity.{countedOf}
 use Rattle.sections.specs.Section.{stageOf}
 use Rattle.sections.specs.Building.{fed, built}
 use Rattle.sections.specs.Outcomes.{crcWrong, wholeOutcome}
-use Rattle.programmes.specs.Places.{placeOf, movedFrom, movedPlaces}
+use Rattle.programmes.specs.Places.{placeOf, placesFrom}
 use Rattle.programmes.specs.Listing.{isNumber, entryFor, readOn, listOf}
 use Rattle.calls.specs.declared.Answer.{Answer}
 use Rattle.calls.specs.declared.State.{State}
@@ -27,7 +27,7 @@ use Rattle.calls.specs.Steps.{absorbedAll, sectionsTaken, step1}
 use Rattle.calls.specs.Sound.{timesSound, numberAmong, entriesSound, roomsFrom, stateSound}
 use Rattle.calls.specs.Calls.{openAnswer, packetRefusal, clockRefusal, packetCall, clockCall}
 use Rattle.calls.specs.Cores.{fixedRoom, roomFor, lateOf}
-use Rattle.demands.specs.Runs.{Given, callOf, afterCall}
+use Rattle.demands.specs.Runs.{Given, callGiven, asking, afterCall}
 use Rattle.demands.specs.Conditions.{PacketWrong, TableWrong, ListShort, TimeAbove, StateWrong, ByteWrong, OrderWrong}
 use Rattle.calls.proofs.Accepted.{packet-number, clock-number}
 use Rattle.demands.proofs.Numbers.{demand-2-accepts-opening, demand-2-accepts-clock, demand-2-accepts-packet}
@@ -37,25 +37,25 @@ use Rattle.outcomes.proofs.Beside.{other-byte-kept}
 
 -- THE LOG: a gap that is late, a PAT, and a second gap that is late
 abbrev second : Given
-second = afterCall leastRoom start (clock 13_500_001)
+second = afterCall start (asking leastCapacity (clock 13_500_001))
 
 abbrev third : Given
-third = afterCall leastRoom second (patAt 13_500_002 [])
+third = afterCall second (asking leastCapacity (patAt 13_500_002 []))
 
 record Defined : Type 0 where
-  clock-accepted : callOf leastRoom start (clock 5) .refusal ≡ 0
-  packet-accepted : callOf leastRoom start (countedAt 5) .refusal ≡ 0
-  packet-refused : callOf leastRoom start (packet 5 (replicate 187 0x47)) .refusal ≡ 1
-  silent : callOf leastRoom start (clock 13_500_000) .events ≡ []
-  late : callOf leastRoom start (clock 13_500_001) .events ≡ eventAt 13_500_000 0x0009 1 0 ∷ []
-  packet-late : callOf leastRoom start (countedAt 13_500_001) .events ≡ eventAt 13_500_000 0x0009 1 0 ∷ []
-  latest : callOf leastRoom start (clock 5) .state .latest ≡ 5
-  arrived : getD (callOf leastRoom start (patAt 10 []) .state .core .since) 0 0 ≡ 10
-  byte : getD (callOf leastRoom start (countedAt 5) .counters) 0x100 0 ≡ 19
-  late-again : callOf leastRoom third (clock 27_000_003) .events ≡ eventAt 27_000_002 0x0009 1 0 ∷ []
+  clock-accepted : callGiven leastCapacity start (clock 5) .refusal ≡ 0
+  packet-accepted : callGiven leastCapacity start (countedAt 5) .refusal ≡ 0
+  packet-refused : callGiven leastCapacity start (packet 5 (replicate 187 0x47)) .refusal ≡ 1
+  silent : callGiven leastCapacity start (clock 13_500_000) .events ≡ []
+  late : callGiven leastCapacity start (clock 13_500_001) .events ≡ eventAt 13_500_000 0x0009 1 0 ∷ []
+  packet-late : callGiven leastCapacity start (countedAt 13_500_001) .events ≡ eventAt 13_500_000 0x0009 1 0 ∷ []
+  latest : callGiven leastCapacity start (clock 5) .state .latest ≡ 5
+  arrived : getD (callGiven leastCapacity start (patAt 10 []) .state .core .since) 0 0 ≡ 10
+  byte : getD (callGiven leastCapacity start (countedAt 5) .counters) 0x100 0 ≡ 19
+  late-again : callGiven leastCapacity third (clock 27_000_003) .events ≡ eventAt 27_000_002 0x0009 1 0 ∷ []
 
 defined : Defined
-unfolding packetCall clockCall packetRefusal clockRefusal stateSound timesSound entriesSound numberAmong roomsFrom lateOf rowsLate tableRows roomFor fixedRoom placeOf step1 sectionsTaken absorbedAll built fed stageOf part wholeOutcome crcWrong crcOf crcFeed crcStep bits bitsOf headerOf countedOf listOf readOn isNumber entryFor movedFrom movedPlaces
+unfolding packetCall clockCall packetRefusal clockRefusal stateSound timesSound entriesSound numberAmong roomsFrom lateOf rowsLate tableRows roomFor fixedRoom placeOf step1 sectionsTaken absorbedAll built fed stageOf part wholeOutcome crcWrong crcOf crcFeed crcStep bits bitsOf headerOf countedOf listOf readOn isNumber entryFor placesFrom
 defined =
     record {
       clock-accepted = refl;
@@ -98,7 +98,7 @@ pub record NoWrongEngine : Type 0 where
       → eventsIn o₃ ≡ [] → ⊥
   -- AN INVENTED N
   pub invented-n : (g : Given) (c : Call (List ℕ)) (old : List Event) (o : Outcome) → Meets g c old o
-      → (o .answer .n ≡ length (callOf (length old) g c .events) → ⊥) → ⊥
+      → (o .answer .n ≡ length (callGiven (length old) g c .events) → ⊥) → ⊥
   pub invented-n-late : (o : Outcome) → Meets start (clock 13_500_001) records o → (o .answer .n ≡ 1 → ⊥) → ⊥
   -- A REFUSAL THAT WRITES: a packet of 187 bytes is refused
   pub short-packet : (o : Outcome) → Meets start (packet 5 (replicate 187 0x47)) records o → o .answer .refusal ≡ 1

@@ -7,7 +7,7 @@
 --   Refuses o          == it answers another number than 0
 --   eventsIn o         == the events that it says it has written
 --   next g c o         == what the call after it is given
---   start, records     == the opening at time 0, and an event list of the least room
+--   start, records     == the opening at time 0, and an event list of the least capacity
 --   patAt t es         == a packet with a good PAT of the entries es
 --   pmtAt t n          == one with a PMT of the programme n, on PID 0x100
 --   plainAt t          == one on PID 0 that begins no section
@@ -19,12 +19,12 @@ use lib.ListN.{length, take, replicate}
 use Rattle.lateness.specs.Logs.{Call, clock, packet}
 use Rattle.events.specs.declared.Event.{Event}
 use Rattle.events.specs.Events.{eventAt}
-use Rattle.events.specs.Room.{leastRoom}
+use Rattle.events.specs.Capacity.{leastCapacity}
 use Rattle.sections.specs.Rooms.{memorySize}
 use Rattle.calls.specs.declared.Answer.{Answer}
 use Rattle.calls.specs.Calls.{answerOf, handedOver, tableSize}
 use Rattle.calls.specs.Cores.{openedState}
-use Rattle.demands.specs.Runs.{Given, callOf}
+use Rattle.demands.specs.Runs.{Given, callGiven}
 use Rattle.examples.specs.Packets.{packetOf, patOf, pmtOf, starting}
 use Rattle.probe.specs.Done.{PacketDone, ClockDone}
 
@@ -35,12 +35,12 @@ pub record Outcome : Type 0 where
   pub events : List Event
 
 abbrev pub Meets : Given → Call (List ℕ) → List Event → Outcome → Type 0
-Meets g (clock t) old o = ClockDone (callOf (length old) g (clock t)) (o .answer) old (o .events)
-Meets g (packet t p) old o = PacketDone (callOf (length old) g (packet t p)) (o .answer) (o .counters) (o .memory) old (o .events)
+Meets g (clock t) old o = ClockDone (callGiven (length old) g (clock t)) (o .answer) old (o .events)
+Meets g (packet t p) old o = PacketDone (callGiven (length old) g (packet t p)) (o .answer) (o .counters) (o .memory) old (o .events)
 
 abbrev pub rightOutcome : Given → Call (List ℕ) → List Event → Outcome
 rightOutcome g c old =
-    let x = callOf (length old) g c in
+    let x = callGiven (length old) g c in
     record { answer = answerOf x; counters = x .counters; memory = x .memory; events = handedOver (x .events) old }
 
 abbrev pub Refuses : Outcome → Type 0
@@ -58,7 +58,7 @@ abbrev pub start : Given
 start = record { state = openedState 0; counters = replicate tableSize 0; memory = replicate memorySize 0 }
 
 abbrev pub records : List Event
-records = replicate leastRoom (eventAt 0 0 0 0)
+records = replicate leastCapacity (eventAt 0 0 0 0)
 
 abbrev pub patAt : ℕ → List ℕ → Call (List ℕ)
 patAt t es = packet t (packetOf 0x47 1 0 0 (starting (patOf es)))
