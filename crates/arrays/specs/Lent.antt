@@ -12,13 +12,13 @@
 --   lostIn w, runIn w == sync is lost where the number is not 0; a run above 255 is as wrong as 255
 --   tabled f k n == f of the n numbers from k on
 --   syncLost, syncRun, gapsIn, countIn, entriesIn, halvesIn == the parts of the state that two such arrays hold
---   entryIn times words k, listedIn times words == the entry at the place k; the listed entries
+--   entryIn times words k == the entry at the place k
 --   coreIn times words, stateIn times words == the state that they hold, without the latest accepted time and with it
 use Prim.Native.Nat.{ℕ, zero, suc, _+_}
 use mathlib.Core.Bool.{Bool, cond, not}
 use mathlib.Core.List.{List, [], _∷_, _++_, map}
 use lib.Dec.{eqb, leb}
-use lib.ListN.{getD, take}
+use lib.ListN.{getD}
 use Rattle.lists.specs.Places.{part}
 use Rattle.watches.specs.declared.Entry.{Entry}
 use Rattle.watches.specs.Tables.{fixedCount}
@@ -124,9 +124,6 @@ countIn words = getD words countAt 0
 
 abbrev pub entriesIn : List ℕ → List ℕ → List Entry
 entriesIn times words = tabled (entryIn times words) 0 mostListed
-
-abbrev pub listedIn : List ℕ → List ℕ → List Entry
-listedIn times words = take (countIn words) (entriesIn times words)
 
 abbrev pub halvesIn : List ℕ → List ℕ
 halvesIn words = part words halvesAt roomCount

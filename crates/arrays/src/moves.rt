@@ -21,7 +21,8 @@ ghost use Rattle.programmes.specs.Listing.{mostListed};
 ghost use Rattle.programmes.specs.Places.{placeOf, halfAt};
 ghost use Rattle.calls.specs.Cores.{withHalf, withSync, withList};
 ghost use Rattle.calls.specs.Steps.{touched, arrivedTable, arrivedProgramme};
-ghost use Rattle.arrays.specs.Lent.{timeCount, wordCount, syncLost, syncRun, gapsIn, countIn, listedIn, halvesIn, coreIn, timesOf, wordsOf, coreTimeCount, coreWordCount};
+ghost use Rattle.arrays.specs.Lent.{timeCount, wordCount, syncLost, syncRun, gapsIn, countIn, halvesIn, coreIn, timesOf, wordsOf, coreTimeCount, coreWordCount};
+ghost use Rattle.arrays.specs.inner.Kept.{listedIn};
 ghost use Rattle.arrays.specs.inner.Kept.{LatestKept, SyncKept, Moved, SyncTold};
 
 // Whether sync is lost.

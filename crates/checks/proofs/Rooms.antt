@@ -10,7 +10,7 @@ use Rattle.lists.proofs.Places.{part-at}
 use Rattle.sections.specs.Rooms.{roomCount}
 use Rattle.calls.specs.Sound.{roomsFrom, roomsSound}
 use Rattle.calls.proofs.Accepted.{room-empty, rooms-whole}
-use Rattle.programmes.specs.Places.{noneHalf}
+use Rattle.programmes.specs.inner.Moving.{noneHalf}
 use Rattle.programmes.proofs.Empty.{none-at}
 
 -- every room is to be built on where nothing is half-built

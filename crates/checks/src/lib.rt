@@ -20,7 +20,7 @@ ghost use lib.ListN.{length, take, drop};
 ghost use Rattle.watches.specs.Tables.{fixedCount};
 ghost use Rattle.sections.specs.Rooms.{memorySize, roomCount, greatestLength, halfBuilt};
 ghost use Rattle.sections.specs.Section.{stageOf, isMore};
-ghost use Rattle.programmes.specs.Places.{noneHalf};
+ghost use Rattle.programmes.specs.inner.Moving.{noneHalf};
 ghost use Rattle.programmes.specs.Listing.{mostListed};
 ghost use Rattle.calls.specs.Sound.{timesSound, numberAmong, entrySound, entriesSound, roomsFrom, roomsSound, stateSound};
 ghost use Rattle.calls.specs.Calls.{openRefusal, clockRefusal};

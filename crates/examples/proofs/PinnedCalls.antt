@@ -83,8 +83,8 @@ pub record Table : Type 0 where
   pub unusable-pointer-drops : sinces (beginsBy 14 5 0 0 pat ∷ shortLoad 6 1 (2 ∷ drop 14 pat) ∷ []) ≡ (0 ∷ []) ∷ (0 ∷ []) ∷ []
   -- S5: with one byte more the same pointer is usable, and the section arrives
   pub usable-pointer-finishes : sinces (beginsBy 14 5 0 0 pat ∷ shortLoad 6 1 (2 ∷ (drop 14 pat ++ (0xFF ∷ []))) ∷ []) ≡ (0 ∷ []) ∷ (6 ∷ 6 ∷ []) ∷ []
-  -- S6: behind a section 0xFF ends the reading: nothing is half-built then
-  pub stuffing-behind-a-section : patHalf (begun 5 0 0 (pat ++ (0xFF ∷ 0x00 ∷ 0x20 ∷ [])) ∷ []) ≡ 0 ∷ []
+  -- S6: behind a section 0xFF ends the reading: what follows begins no section of another table_id
+  pub stuffing-behind-a-section : events (begun 5 0 0 (pat ++ (0xFF ∷ 0x00 ∷ 0x20 ∷ [])) ∷ []) ≡ quiet ∷ []
   -- S9: another table_id on PID 0 gives cause 2 though its current_next_indicator is 0
   pub foreign-and-not-current : events (begun 5 0 0 (nextTable 0x02) ∷ []) ≡ (eventAt 5 0x0009 2 0 ∷ []) ∷ []
   -- S9: and with indicator 0

@@ -11,7 +11,8 @@ use Rattle.lists.specs.Places.{part}
 use Rattle.lists.proofs.Places.{part-turn, part-at}
 use Rattle.lists.proofs.Tests.{and-left, and-right}
 use Rattle.sections.specs.Rooms.{roomOfPlace}
-use Rattle.programmes.specs.Places.{halfAt, noneHalf}
+use Rattle.programmes.specs.Places.{halfAt}
+use Rattle.programmes.specs.inner.Moving.{noneHalf}
 
 -- ONE MORE looked at, and all of them
 and-assoc : (a b c : Bool) → (a && (b && c)) ≡ (a && b && c)

@@ -9,7 +9,8 @@ use Rattle.lists.specs.Places.{part}
 use Rattle.watches.specs.declared.Entry.{Entry}
 use Rattle.watches.specs.Tables.{noEntry}
 use Rattle.programmes.specs.Listing.{mostListed, lowestPid, nullPid, numberOf, entryPid, entriesOf, pidUnusable, isNumber, entryFor, readOn, listOf}
-use Rattle.programmes.specs.Places.{placeOf, isListed, noneHalf, placesFrom, movedHalves, movedBytes}
+use Rattle.programmes.specs.Places.{placeOf, isListed, placesFrom, movedHalves, movedBytes}
+use Rattle.programmes.specs.inner.Moving.{noneHalf}
 
 -- THE LIST
 abbrev programme : ℕ → ℕ → ℕ → Entry

@@ -20,7 +20,8 @@ use Rattle.watches.specs.Tables.{noEntry}
 use Rattle.sections.specs.Rooms.{memorySize, roomOfPlace, roomBase, halfBuilt}
 use Rattle.sections.proofs.Stages.{place-fits}
 use Rattle.programmes.proofs.Empty.{none-places}
-use Rattle.programmes.specs.Places.{noneHalf, placeOf, isListed, pidAt, isFirst, halfAt, placesFrom, everyPlace, stoodIn, movedHalf, movedHalves, movedSection, roomsLaid, movedBytes}
+use Rattle.programmes.specs.Places.{placeOf, isListed, pidAt, isFirst, halfAt, placesFrom, everyPlace, stoodIn, movedHalf, movedHalves, movedSection, roomsLaid, movedBytes}
+use Rattle.programmes.specs.inner.Moving.{noneHalf}
 use Rattle.programmes.specs.inner.Moving.{sectionAt, Placed, Stayed}
 use Rattle.programmes.proofs.Moved.{roomLaid, laid-back, rooms-alike}
 

@@ -7,7 +7,6 @@
 --   pidAt es k       == the PID of the place k
 --   isFirst es k     == the place k is listed, and the first with its PID
 --   halfAt ns r      == the half-built length of the room r
---   noneHalf ns      == of these half-built lengths each is 0
 --   placesFrom k n   == n places from the place k on
 --   everyPlace       == the sixteen places of a list
 --   keepsAt old new k == the place k of the new list has a half-built section to keep: it is the first with its PID, and the PID was listed before
@@ -18,7 +17,7 @@
 --   roomsLaid sections ks m == section memory, where the room of each place k of ks begins with the bytes sections k
 --   movedBytes old new ns m == section memory, where the room of each place of the new list begins with its half-built bytes
 use Prim.Native.Nat.{ℕ, zero, suc, _+_}
-use mathlib.Core.Bool.{Bool, true, cond, _&&_}
+use mathlib.Core.Bool.{Bool, cond, _&&_}
 use mathlib.Core.List.{List, [], _∷_, _++_, map, foldl}
 use lib.Dec.{ltb, eqb}
 use lib.ListN.{length, getD, take}
@@ -43,10 +42,6 @@ isFirst es k = ltb k (length es) && eqb (placeOf (pidAt es k) es) k
 
 abbrev pub halfAt : List ℕ → ℕ → ℕ
 halfAt ns r = getD ns r 0
-
-unfoldable pub noneHalf : List ℕ → Bool
-noneHalf [] = true
-noneHalf (n ∷ ns) = eqb n 0 && noneHalf ns
 
 unfoldable pub placesFrom : ℕ → ℕ → List ℕ
 placesFrom k zero = []

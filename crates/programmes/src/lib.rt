@@ -16,7 +16,8 @@ ghost use Rattle.watches.specs.Tables.{fixedCount};
 ghost use Rattle.sections.specs.Rooms.{memorySize, roomCount, roomOfPlace, roomBase, halfBuilt};
 ghost use Rattle.programmes.specs.Listing.{isPair, entryFor, isNumber, pidUnusable, mostListed, entered, noneListed, readOn, listOf};
 ghost use Rattle.programmes.specs.inner.Reading.{numberAt, pidIn, seenTo, withAddition};
-ghost use Rattle.programmes.specs.Places.{placeOf, halfAt, noneHalf, everyPlace, movedHalf, movedHalves, roomsLaid, movedBytes};
+ghost use Rattle.programmes.specs.Places.{placeOf, halfAt, everyPlace, movedHalf, movedHalves, roomsLaid, movedBytes};
+ghost use Rattle.programmes.specs.inner.Moving.{noneHalf};
 ghost use Rattle.programmes.specs.inner.Moving.{sectionAt, Placed, Stayed};
 
 // The list of a good PAT section: how many programmes are listed, whether the list is bad, and sixteen

@@ -17,7 +17,8 @@ use Rattle.calls.specs.Cores.{roomFor, withHalf, withSync}
 use Rattle.calls.proofs.Accepted.{room-empty}
 use Rattle.calls.specs.Sound.{roomSound, roomsFrom, roomsSound}
 use Rattle.calls.specs.Sync.{Synced, lostNow, inSync, whileLost, syncedOf}
-use Rattle.arrays.specs.Lent.{countIn, entriesIn, listedIn}
+use Rattle.arrays.specs.Lent.{countIn, entriesIn}
+use Rattle.arrays.specs.inner.Kept.{listedIn}
 use Rattle.arrays.proofs.Stores.{entries-length}
 
 -- whether a PID is listed, by its place

@@ -1,6 +1,7 @@
 -- What the functions that move a state in its arrays are given and hand back. The core that the definitions speak of does not tell all of the arrays
 -- (docs/DECISIONS.md, F21), so each says what becomes of the rest.
 --
+--   listedIn times words == the listed entries of the state that two such arrays hold
 --   Sized times words == both are as long as such arrays are
 --   LatestKept a b, SyncKept a b == what a core does not tell of the times b, and of the words b, is as it was in a: the latest accepted time; by
 --                 which numbers lost and run are told
@@ -10,12 +11,16 @@
 use mathlib.Core.Path.{_≡_}
 use mathlib.Core.List.{List}
 use Prim.Native.Nat.{ℕ, _≤_}
-use lib.ListN.{length, getD}
+use lib.ListN.{length, getD, take}
+use Rattle.watches.specs.declared.Entry.{Entry}
 use Rattle.watches.specs.Tables.{fixedCount}
 use Rattle.sections.specs.Rooms.{roomCount}
 use Rattle.programmes.specs.Listing.{mostListed}
 use Rattle.calls.specs.declared.State.{State}
-use Rattle.arrays.specs.Lent.{timeCount, wordCount, latestAt, lostAt, runAt, lostWord, syncLost, syncRun}
+use Rattle.arrays.specs.Lent.{timeCount, wordCount, latestAt, lostAt, runAt, lostWord, syncLost, syncRun, countIn, entriesIn}
+
+abbrev pub listedIn : List ℕ → List ℕ → List Entry
+listedIn times words = take (countIn words) (entriesIn times words)
 
 pub record Sized (times words : List ℕ) : Type 0 where
   pub long : length times ≡ timeCount

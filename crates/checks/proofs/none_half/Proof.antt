@@ -6,7 +6,7 @@ use Prim.Native.Nat.{_+_, _-_, _≤_}
 use native.Mathlib.Nat.{zero-add}
 use native.Mathlib.Omega.{arith}
 use Rattle.lists.specs.Places.{part}
-use Rattle.programmes.specs.Places.{noneHalf}
+use Rattle.programmes.specs.inner.Moving.{noneHalf}
 use Rattle.programmes.proofs.Empty.{none-turn, none-end}
 use Rattle.arrays.proofs.Tabled.{part-all}
 use Rattle.checks.proofs.none_half.Statement.{statement}

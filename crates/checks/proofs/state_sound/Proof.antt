@@ -13,7 +13,8 @@ use Rattle.watches.specs.Tables.{fixedCount}
 use Rattle.sections.specs.Rooms.{roomCount}
 use Rattle.programmes.specs.Listing.{mostListed}
 use Rattle.calls.specs.Sound.{timesSound, entriesSound, stateSound}
-use Rattle.arrays.specs.Lent.{gapsIn, countIn, entriesIn, listedIn, stateIn, gapsAt, halvesAt}
+use Rattle.arrays.specs.Lent.{gapsIn, countIn, entriesIn, stateIn, gapsAt, halvesAt}
+use Rattle.arrays.specs.inner.Kept.{listedIn}
 use Rattle.checks.proofs.state_sound.Statement.{statement}
 use Rattle.checks.proofs.state_sound.Tie as tie
 

@@ -5,7 +5,7 @@ use mathlib.Core.Bool.{_&&_}
 use Prim.Native.Nat.{_+_, _-_, _≤_}
 use native.Mathlib.Omega.{arith}
 use Rattle.lists.specs.Places.{part}
-use Rattle.programmes.specs.Places.{noneHalf}
+use Rattle.programmes.specs.inner.Moving.{noneHalf}
 use Rattle.programmes.proofs.Empty.{none-turn, none-end}
 use Rattle.programmes.proofs.none_listed.Statement.{statement}
 use Rattle.programmes.proofs.none_listed.Tie as tie

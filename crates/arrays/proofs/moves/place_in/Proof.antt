@@ -12,7 +12,8 @@ use borrow.Author.Tests.{eq-eqb, ne-eqb}
 use Rattle.watches.specs.Tables.{noEntry}
 use Rattle.programmes.specs.Places.{placeOf}
 use Rattle.programmes.proofs.Searches.{place-here, place-on, place-none}
-use Rattle.arrays.specs.Lent.{countIn, entriesIn, listedIn}
+use Rattle.arrays.specs.Lent.{countIn, entriesIn}
+use Rattle.arrays.specs.inner.Kept.{listedIn}
 use Rattle.arrays.proofs.Stores.{entry-at, entries-length}
 use Rattle.arrays.proofs.moves.place_in.Statement.{statement}
 use Rattle.arrays.proofs.moves.place_in.Tie as tie

@@ -12,7 +12,8 @@ use Rattle.watches.specs.Tables.{fixedTables, fixedCount}
 use Rattle.watches.specs.Late.{tableRows, entryRows}
 use Rattle.watches.proofs.Late.{rows-append, tables-whole, entries-most}
 use Rattle.calls.specs.Cores.{lateOf}
-use Rattle.arrays.specs.Lent.{gapsIn, countIn, entriesIn, listedIn, coreIn, latestAt, gapsAt}
+use Rattle.arrays.specs.Lent.{gapsIn, countIn, entriesIn, coreIn, latestAt, gapsAt}
+use Rattle.arrays.specs.inner.Kept.{listedIn}
 use Rattle.engine.proofs.Fits.{late-of-fits}
 use Rattle.engine.proofs.lent.judge_late.Statement.{statement}
 use Rattle.engine.proofs.lent.judge_late.Tie as tie

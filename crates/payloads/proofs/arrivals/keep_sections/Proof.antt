@@ -10,7 +10,7 @@ use lib.ListN.{length, take, length-take}
 use Rattle.lists.specs.Places.{part}
 use Rattle.lists.proofs.Places.{part-length}
 use Rattle.sections.specs.Rooms.{roomCount}
-use Rattle.programmes.specs.Places.{noneHalf}
+use Rattle.programmes.specs.inner.Moving.{noneHalf}
 use Rattle.programmes.proofs.Moves.{halves-same, bytes-same}
 use Rattle.arrays.specs.Lent.{halvesIn, halvesAt}
 use Rattle.arrays.proofs.Stores.{halves-laid}
