@@ -1,1 +1,2 @@
 pub mod Continuity
+pub mod InOrder
