@@ -1,8 +1,8 @@
 -- Step 4 leaves a known byte in a counter table of known bytes. Assumes nothing.
 use mathlib.Core.Path.{_≡_, refl, ap, _∙_}
-use mathlib.Core.Bool.{Bool, true, false, _||_}
+use mathlib.Core.Bool.{Bool, true, false, not, _&&_, _||_}
 use mathlib.Core.List.{List}
-use Prim.Native.Nat.{ℕ, _+_, _%_, _<_}
+use Prim.Native.Nat.{ℕ, _+_, _<_}
 use native.Mathlib.Omega.{arith}
 use lib.Dec.{eqb}
 use lib.ListN.{length, getD, set}
@@ -10,9 +10,9 @@ use lib.Seq.{getD-set-same, getD-set-other, set-out}
 use borrow.Author.Tests.{eqb-true, eqb-false}
 use Rattle.lists.proofs.Tests.{cond-either, Order, below, from, order}
 use Rattle.lists.proofs.Table.{passes-at}
-use Rattle.header.specs.Header.{pidOf, controlOf, counterOf, headerOf}
+use Rattle.header.specs.Header.{pidOf, counterOf, headerOf}
 use Rattle.continuity.specs.declared.Counted.{Counted}
-use Rattle.continuity.specs.Continuity.{knownByte, lastOf, repeatedOf, begun, unchanged, otherEmpty, followed, repeated, repeatedAgain, broken, countedOf}
+use Rattle.continuity.specs.Continuity.{isUnseen, repeatedOnce, knownByte, control10, isNext, isLast, countedOf}
 use Rattle.calls.specs.Steps.{counted}
 
 abbrev pub KnownBytes : List ℕ → Type 0
@@ -42,11 +42,13 @@ module _ (b : ℕ) (p : List ℕ) (known : knownByte b ≡ true) where
   counted-known : Leaves (countedOf b (headerOf p))
   unfolding countedOf headerOf
   counted-known =
-      let n = counterOf p in
-      cond-either Leaves (headerOf p .discontinuity || eqb b 0) (begun n) _ last-known
-      (cond-either Leaves (eqb (controlOf p) 2) _ _ (cond-either Leaves (eqb n (lastOf b)) (unchanged b) (otherEmpty n) known last-known)
-      (cond-either Leaves (eqb n ((lastOf b + 1) % 16)) (followed n) _ last-known
-      (cond-either Leaves (eqb n (lastOf b)) _ (broken n) (cond-either Leaves (repeatedOf b) (repeatedAgain b) (repeated n) known repeated-known) last-known)))
+      let h = headerOf p in
+      cond-either Leaves (h .discontinuity || isUnseen b) _ _ last-known
+      (cond-either Leaves (control10 h && isLast b h) _ _ known
+      (cond-either Leaves (control10 h) _ _ last-known
+      (cond-either Leaves (isNext b h) _ _ last-known
+      (cond-either Leaves (isLast b h && not (repeatedOnce b)) _ _ repeated-known
+      (cond-either Leaves (isLast b h) _ _ known last-known)))))
 
 pub known-counted : (p cs : List ℕ) → KnownBytes cs → KnownBytes (set cs (pidOf p) (counted p cs .byte))
 known-counted p cs known = known-set cs (pidOf p) (counted p cs .byte) known (counted-known (getD cs (pidOf p) 0) p (known (pidOf p)))

@@ -1,9 +1,10 @@
 -- Step 4 case by case, with all that it leaves: examples that a wrong definition would break. Assumes nothing.
 use mathlib.Core.Path.{_≡_, refl}
 use mathlib.Core.Bool.{Bool, true, false}
-use mathlib.Core.List.{[], _∷_, map}
+use mathlib.Core.List.{List, [], _∷_, map}
 use Prim.Native.Nat.{ℕ}
 use Rattle.header.specs.declared.Header.{Header}
+use Rattle.header.specs.Header.{headerOf}
 use Rattle.continuity.specs.declared.Counted.{Counted}
 use Rattle.continuity.specs.Continuity.{knownByte, countedOf}
 
@@ -122,4 +123,58 @@ table =
       wrong-length-again = refl;
       wrong-length-any-other = refl;
       wrong-length-under-10 = refl;
+    }
+
+-- The worked table of docs/TRAINING.md: packets one after the other on an unseen PID, each by its fourth byte (control and counter) and, where it has an
+-- adaptation field, the fifth (its length) and the sixth (its flags).
+abbrev packet : List ℕ → List ℕ
+packet bytes = 0x47 ∷ 0x01 ∷ 0x00 ∷ bytes
+
+abbrev onwards : ℕ → List (List ℕ) → List Counted
+onwards b [] = []
+onwards b (x ∷ xs) = countedOf b (headerOf (packet x)) ∷ onwards (countedOf b (headerOf (packet x)) .byte) xs
+
+abbrev fromUnseen : List (List ℕ) → List Counted
+fromUnseen = onwards 0
+
+pub record Worked : Type 0 where
+  pub counters-15-0 : fromUnseen ((0x1f ∷ []) ∷ (0x10 ∷ []) ∷ []) ≡ left 31 false false true ∷ left 16 false true true ∷ []
+  pub counters-3-3 : fromUnseen ((0x13 ∷ []) ∷ (0x13 ∷ []) ∷ []) ≡ left 19 false false true ∷ left 51 false true false ∷ []
+  pub counters-3-3-3 : fromUnseen ((0x13 ∷ []) ∷ (0x13 ∷ []) ∷ (0x13 ∷ []) ∷ []) ≡ left 19 false false true ∷ left 51 false true false ∷ left 51 true true false ∷ []
+  pub counters-3-3-4 : fromUnseen ((0x13 ∷ []) ∷ (0x13 ∷ []) ∷ (0x14 ∷ []) ∷ []) ≡ left 19 false false true ∷ left 51 false true false ∷ left 20 false true true ∷ []
+  pub counters-3-5 : fromUnseen ((0x13 ∷ []) ∷ (0x15 ∷ []) ∷ []) ≡ left 19 false false true ∷ left 21 true false true ∷ []
+  pub counters-3-2 : fromUnseen ((0x13 ∷ []) ∷ (0x12 ∷ []) ∷ []) ≡ left 19 false false true ∷ left 18 true false true ∷ []
+  pub jump-with-the-indicator : fromUnseen ((0x13 ∷ []) ∷ (0x39 ∷ 0x01 ∷ 0x80 ∷ []) ∷ []) ≡ left 19 false false true ∷ left 25 false false true ∷ []
+  pub same-with-the-indicator : fromUnseen ((0x13 ∷ []) ∷ (0x33 ∷ 0x01 ∷ 0x80 ∷ []) ∷ []) ≡ left 19 false false true ∷ left 19 false false true ∷ []
+  pub jump-with-length-0 : fromUnseen ((0x13 ∷ []) ∷ (0x39 ∷ 0x00 ∷ 0x80 ∷ []) ∷ []) ≡ left 19 false false true ∷ left 25 true false true ∷ []
+  pub control-10-equal : fromUnseen ((0x13 ∷ []) ∷ (0x23 ∷ 0xb7 ∷ 0x00 ∷ []) ∷ (0x14 ∷ []) ∷ []) ≡ left 19 false false true ∷ left 19 false true false ∷ left 20 false true true ∷ []
+  pub control-10-another : fromUnseen ((0x13 ∷ []) ∷ (0x24 ∷ 0xb7 ∷ 0x00 ∷ []) ∷ (0x15 ∷ []) ∷ []) ≡ left 19 false false true ∷ left 20 true true false ∷ left 21 false true true ∷ []
+  pub control-10-first : fromUnseen ((0x23 ∷ 0xb7 ∷ 0x00 ∷ []) ∷ (0x13 ∷ []) ∷ []) ≡ left 19 false false false ∷ left 51 false true false ∷ []
+  pub wrong-length-under-11-next : fromUnseen ((0x13 ∷ []) ∷ (0x34 ∷ 0xb7 ∷ 0x00 ∷ []) ∷ []) ≡ left 19 false false true ∷ left 20 false false false ∷ []
+  pub wrong-length-under-11-once : fromUnseen ((0x13 ∷ []) ∷ (0x33 ∷ 0xb7 ∷ 0x00 ∷ []) ∷ []) ≡ left 19 false false true ∷ left 51 false false false ∷ []
+  pub wrong-length-under-11-jump : fromUnseen ((0x13 ∷ []) ∷ (0x39 ∷ 0xb7 ∷ 0x80 ∷ []) ∷ []) ≡ left 19 false false true ∷ left 25 true false false ∷ []
+  pub wrong-length-under-10-equal : fromUnseen ((0x13 ∷ []) ∷ (0x23 ∷ 0xb6 ∷ 0x00 ∷ []) ∷ []) ≡ left 19 false false true ∷ left 19 false true false ∷ []
+  pub wrong-length-under-10-jump : fromUnseen ((0x13 ∷ []) ∷ (0x29 ∷ 0xb6 ∷ 0x80 ∷ []) ∷ []) ≡ left 19 false false true ∷ left 25 true true false ∷ []
+
+pub worked : Worked
+unfolding countedOf headerOf
+worked =
+    record {
+      counters-15-0 = refl;
+      counters-3-3 = refl;
+      counters-3-3-3 = refl;
+      counters-3-3-4 = refl;
+      counters-3-5 = refl;
+      counters-3-2 = refl;
+      jump-with-the-indicator = refl;
+      same-with-the-indicator = refl;
+      jump-with-length-0 = refl;
+      control-10-equal = refl;
+      control-10-another = refl;
+      control-10-first = refl;
+      wrong-length-under-11-next = refl;
+      wrong-length-under-11-once = refl;
+      wrong-length-under-11-jump = refl;
+      wrong-length-under-10-equal = refl;
+      wrong-length-under-10-jump = refl;
     }

@@ -1,65 +1,99 @@
--- Step 4 of document 01, "Judging one packet": continuity. b is the table byte of the packet's PID, n the packet's counter.
+-- W-203: step 4 of document 01, "Judging one packet": continuity. Each sentence stands above what it says, in the paper's order
+-- (docs/TRAINING.md). b is the table byte of the packet's PID, h the packet's header.
 --
---   knownByte b    == a table byte that these calls leave: 0 unseen, 16+c last counter c, 48+c the same and repeated once
---   lastOf b       == the last counter c
---   repeatedOf b   == repeated once
---   begun n        == a set discontinuity indicator, or an unseen PID: no event, half-built section dropped, payload taken
---   unchanged b    == control 10 with an equal counter: changes nothing
---   otherEmpty n   == control 10 with another counter: 0x000E, half-built section kept
---   followed n     == counter c+1 mod 16: payload taken
---   repeated n     == counter c once: payload skipped, no event
---   repeatedAgain b == counter c again: 0x000E, byte stays, payload skipped
---   broken n       == any other: 0x000E, half-built section dropped, payload taken
---   counterCase    == which of them, in the paper's order
---   withLength     == with a wrong length there is no payload to take, and control 11 also drops the half-built section
---   countedOf b h  == step 4 whole
+--   isUnseen b       == the table byte of an unseen PID
+--   lastOf b         == the last counter c
+--   repeatedOnce b   == the table byte says that c was repeated once
+--   knownByte b      == a table byte that these calls leave: 0, 16..31 or 48..63
+--   control10, control11 h == adaptation_field_control is 10; 11
+--   payloadToTake h  == there is a payload to take: not with a wrong length, and control 10 has none
+--   sectionStays h   == no wrong length under control 11, which drops the half-built section
+--   isNext b h       == the packet's counter is c+1 mod 16
+--   isLast b h       == it is c
+--   anEvent, noEvent == 0x000E is given; it is not
+--   sectionDropped, payloadSkipped == what they say
+--   leave byte event keep take == what a case leaves: the table byte, an event, the half-built section kept, the payload taken
+--   counterCase payload section b h == the cases, the first that holds; payload and section are what the adaptation length leaves to them
+--   countedOf b h    == step 4 whole: the adaptation length, then the case
 use Prim.Native.Nat.{ℕ, _+_, _%_}
 use mathlib.Core.Bool.{Bool, true, false, cond, not, _&&_, _||_}
 use lib.Dec.{leb, eqb}
 use Rattle.header.specs.declared.Header.{Header}
 use Rattle.continuity.specs.declared.Counted.{Counted}
 
-abbrev pub knownByte : ℕ → Bool
-knownByte b = eqb b 0 || (leb 16 b && leb b 31) || (leb 48 b && leb b 63)
+-- THE TABLE BYTE
+-- Table byte: 0 unseen,
+abbrev pub isUnseen : ℕ → Bool
+isUnseen b = eqb b 0
 
+-- 16+c last counter c,
 abbrev pub lastOf : ℕ → ℕ
 lastOf b = b % 16
 
-abbrev pub repeatedOf : ℕ → Bool
-repeatedOf b = leb 48 b
+-- 48+c the same and repeated once.
+abbrev pub repeatedOnce : ℕ → Bool
+repeatedOnce b = leb 48 b
 
-abbrev pub begun : ℕ → Counted
-begun n = record { byte = 16 + n; event = false; keep = false; take = true }
+abbrev pub knownByte : ℕ → Bool
+knownByte b = isUnseen b || (leb 16 b && leb b 31) || (leb 48 b && leb b 63)
 
-abbrev pub unchanged : ℕ → Counted
-unchanged b = record { byte = b; event = false; keep = true; take = false }
+-- THE ADAPTATION LENGTH
+abbrev pub control10 : Header → Bool
+control10 h = eqb (h .control) 2
 
-abbrev pub otherEmpty : ℕ → Counted
-otherEmpty n = record { byte = 16 + n; event = true; keep = true; take = false }
+abbrev pub control11 : Header → Bool
+control11 h = eqb (h .control) 3
 
-abbrev pub followed : ℕ → Counted
-followed n = record { byte = 16 + n; event = false; keep = true; take = true }
+-- Control 10 needs adaptation length 183, control 11 needs 0 to 182. Length 0 has no discontinuity indicator: it counts as 0. With a wrong length it
+-- counts as 0 too (so far `rightLength` and `indicator`, header/specs/Header.antt: h's `right` and `discontinuity`)
+-- and there is no payload to take
+abbrev pub payloadToTake : Header → Bool
+payloadToTake h = h .right && not (control10 h)
 
-abbrev pub repeated : ℕ → Counted
-repeated n = record { byte = 48 + n; event = false; keep = true; take = false }
+-- (control 11 also drops the PID's half-built section).
+abbrev pub sectionStays : Header → Bool
+sectionStays h = h .right || not (control11 h)
 
-abbrev pub repeatedAgain : ℕ → Counted
-repeatedAgain b = record { byte = b; event = true; keep = true; take = false }
+-- THE COUNTER
+abbrev pub isNext : ℕ → Header → Bool
+isNext b h = eqb (h .counter) ((lastOf b + 1) % 16)
 
-abbrev pub broken : ℕ → Counted
-broken n = record { byte = 16 + n; event = true; keep = false; take = true }
+abbrev pub isLast : ℕ → Header → Bool
+isLast b h = eqb (h .counter) (lastOf b)
 
-abbrev pub counterCase : ℕ → ℕ → ℕ → Bool → Counted
-counterCase b control n discontinuity =
-    cond (discontinuity || eqb b 0) (begun n)
-    (cond (eqb control 2) (cond (eqb n (lastOf b)) (unchanged b) (otherEmpty n))
-    (cond (eqb n ((lastOf b + 1) % 16)) (followed n)
-    (cond (eqb n (lastOf b)) (cond (repeatedOf b) (repeatedAgain b) (repeated n))
-    (broken n))))
+-- THE CASES
+abbrev pub anEvent : Bool
+anEvent = true
 
-abbrev pub withLength : ℕ → Bool → Counted → Counted
-withLength control right j =
-    record { byte = j .byte; event = j .event; keep = j .keep && not (eqb control 3 && not right); take = j .take && right && not (eqb control 2) }
+abbrev pub noEvent : Bool
+noEvent = false
 
+abbrev pub sectionDropped : Bool
+sectionDropped = false
+
+abbrev pub payloadSkipped : Bool
+payloadSkipped = false
+
+abbrev pub leave : ℕ → Bool → Bool → Bool → Counted
+leave byte event keep take = record { byte = byte; event = event; keep = keep; take = take }
+
+abbrev pub counterCase : Bool → Bool → ℕ → Header → Counted
+counterCase payload section b h =
+    -- A set discontinuity indicator, or an unseen PID: byte becomes 16+counter, no event, half-built section dropped, payload taken.
+    cond (h .discontinuity || isUnseen b) (leave (16 + h .counter) noEvent sectionDropped payload)
+    -- Control 10: an equal counter changes nothing;
+    (cond (control10 h && isLast b h) (leave b noEvent section payloadSkipped)
+    -- another gives 0x000E and 16+counter, half-built section kept.
+    (cond (control10 h) (leave (16 + h .counter) anEvent section payloadSkipped)
+    -- Controls 01 and 11: counter c+1 mod 16 gives 16+counter, payload taken.
+    (cond (isNext b h) (leave (16 + h .counter) noEvent section payload)
+    -- Counter c once is a repeat: 48+c, payload skipped, no event.
+    (cond (isLast b h && not (repeatedOnce b)) (leave (48 + h .counter) noEvent section payloadSkipped)
+    -- Counter c again: 0x000E, byte stays, payload skipped.
+    (cond (isLast b h) (leave b anEvent section payloadSkipped)
+    -- Any other: 0x000E, 16+counter, half-built section dropped, payload taken.
+    (leave (16 + h .counter) anEvent sectionDropped payload))))))
+
+-- THE STEP
 unfoldable pub countedOf : ℕ → Header → Counted
-countedOf b h = withLength (h .control) (h .right) (counterCase b (h .control) (h .counter) (h .discontinuity))
+countedOf b h = counterCase (payloadToTake h) (sectionStays h) b h

@@ -1,2 +1,1 @@
 pub mod Continuity
-pub mod InOrder

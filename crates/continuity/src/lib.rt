@@ -1,10 +1,9 @@
-// Continuity: step 4 of document 01, "Judging one packet", as a judgement on the table byte.
+// Continuity: step 4 of document 01, "Judging one packet", as a judgement on the table byte. Each sentence of the step stands
+// above what it says, in the paper's order (docs/TRAINING.md).
 use header::Header;
 ghost use mathlib.Core.Path.{_≡_};
 ghost use Prim.Native.Nat.{_<_};
-ghost use mathlib.Core.Bool.{cond};
-ghost use lib.Dec.{eqb};
-ghost use Rattle.continuity.specs.Continuity.{knownByte, lastOf, repeatedOf, begun, unchanged, otherEmpty, repeated, repeatedAgain, counterCase, countedOf};
+ghost use Rattle.continuity.specs.Continuity.{knownByte, leave, countedOf};
 
 // The PID's next table byte, whether there is a continuity error, whether its half-built section is
 // kept, and whether the payload is taken.
@@ -15,6 +14,26 @@ pub struct Counted {
     pub take: bool,
 }
 
+// What a case leaves of the event (0x000E), the half-built section and the payload.
+const NO_EVENT: bool = false;
+
+const EVENT: bool = true;
+
+const SECTION_DROPPED: bool = false;
+
+const PAYLOAD_SKIPPED: bool = false;
+
+fn leave(byte: u8, event: bool, keep: bool, take: bool) -> Counted
+    ensures { λ r. ⌜ r ≡ leave byte event keep take ⌝ }
+{
+    Counted {
+        byte: byte,
+        event: event,
+        keep: keep,
+        take: take,
+    }
+}
+
 // Whether a table byte is one that these calls leave: 0, 16..31 or 48..63.
 pub fn known_byte(b: u8) -> bool
     ensures { λ r. ⌜ r ≡ knownByte b ⌝ }
@@ -22,102 +41,53 @@ pub fn known_byte(b: u8) -> bool
     (b == 0) | ((16 <= b) & (b <= 31)) | ((48 <= b) & (b <= 63))
 }
 
-// A set discontinuity indicator, or an unseen PID.
-fn begin(counter: u8) -> Counted
-    requires { ⌜ counter < 16 ⌝ }
-    ensures { λ r. ⌜ r ≡ begun counter ⌝ }
-{
-    Counted {
-        byte: 16 + counter,
-        event: false,
-        keep: false,
-        take: true,
-    }
-}
-
-// No payload: an equal counter changes nothing, another is an error.
-fn without_payload(byte: u8, counter: u8) -> Counted
-    requires { ⌜ counter < 16 ⌝ }
-    ensures { λ r. ⌜ r ≡ cond (eqb counter (lastOf byte)) (unchanged byte) (otherEmpty counter) ⌝ }
-{
-    if counter == byte % 16 {
-        return Counted {
-            byte: byte,
-            event: false,
-            keep: true,
-            take: false,
-        };
-    }
-    Counted {
-        byte: 16 + counter,
-        event: true,
-        keep: true,
-        take: false,
-    }
-}
-
-// The counter comes again: once it is a repeat, then an error.
-fn repeat(byte: u8, counter: u8) -> Counted
-    requires { ⌜ counter < 16 ⌝ }
-    ensures { λ r. ⌜ r ≡ cond (repeatedOf byte) (repeatedAgain byte) (repeated counter) ⌝ }
-{
-    if 48 <= byte {
-        return Counted {
-            byte: byte,
-            event: true,
-            keep: true,
-            take: false,
-        };
-    }
-    Counted {
-        byte: 48 + counter,
-        event: false,
-        keep: true,
-        take: false,
-    }
-}
-
-// Step 4, but for the adaptation length.
-fn judge_counter(byte: u8, control: u8, counter: u8, discontinuity: bool) -> Counted
-    requires { ⌜ counter < 16 ⌝ }
-    ensures { λ r. ⌜ r ≡ counterCase byte control counter discontinuity ⌝ }
-{
-    if discontinuity | (byte == 0) {
-        return begin(counter);
-    }
-    if control == 2 {
-        return without_payload(byte, counter);
-    }
-    if counter == (byte % 16 + 1) % 16 {
-        return Counted {
-            byte: 16 + counter,
-            event: false,
-            keep: true,
-            take: true,
-        };
-    }
-    if counter == byte % 16 {
-        return repeat(byte, counter);
-    }
-    Counted {
-        byte: 16 + counter,
-        event: true,
-        keep: false,
-        take: true,
-    }
-}
-
 // Step 4 on the table byte of the packet's PID.
 pub fn judge(byte: u8, h: Header) -> Counted
     requires { ⌜ h .counter < 16 ⌝ }
     ensures { λ r. ⌜ r ≡ countedOf byte h ⌝ }
 {
-    let j = judge_counter(byte, h.control, h.counter, h.discontinuity);
-    let torn = (h.control == 3) & !h.right;
-    Counted {
-        byte: j.byte,
-        event: j.event,
-        keep: j.keep & !torn,
-        take: j.take & h.right & !(h.control == 2),
+    let counter = h.counter;
+    let control_10 = h.control == 0b10;
+    let control_11 = h.control == 0b11;
+
+    // Table byte: 0 unseen,
+    let unseen = byte == 0;
+    // 16+c last counter c,
+    let last = byte % 16;
+    // 48+c the same and repeated once.
+    let repeated = 48 <= byte;
+
+    // Control 10 needs adaptation length 183, control 11 needs 0 to 182. Length 0 has no discontinuity indicator: it counts as 0.
+    // With a wrong length it counts as 0 too (so far in `header`, which hands over `right` and `discontinuity`)
+    // and there is no payload to take
+    let payload = h.right & !control_10;
+    // (control 11 also drops the PID's half-built section).
+    let section = h.right | !control_11;
+
+    // A set discontinuity indicator, or an unseen PID: byte becomes 16+counter, no event, half-built section dropped, payload taken.
+    if h.discontinuity | unseen {
+        return leave(16 + counter, NO_EVENT, SECTION_DROPPED, payload);
     }
+    // Control 10: an equal counter changes nothing;
+    if control_10 & (counter == last) {
+        return leave(byte, NO_EVENT, section, PAYLOAD_SKIPPED);
+    }
+    // another gives 0x000E and 16+counter, half-built section kept.
+    if control_10 {
+        return leave(16 + counter, EVENT, section, PAYLOAD_SKIPPED);
+    }
+    // Controls 01 and 11: counter c+1 mod 16 gives 16+counter, payload taken.
+    if counter == (last + 1) % 16 {
+        return leave(16 + counter, NO_EVENT, section, payload);
+    }
+    // Counter c once is a repeat: 48+c, payload skipped, no event.
+    if (counter == last) & !repeated {
+        return leave(48 + counter, NO_EVENT, section, PAYLOAD_SKIPPED);
+    }
+    // Counter c again: 0x000E, byte stays, payload skipped.
+    if counter == last {
+        return leave(byte, EVENT, section, PAYLOAD_SKIPPED);
+    }
+    // Any other: 0x000E, 16+counter, half-built section dropped, payload taken.
+    leave(16 + counter, EVENT, SECTION_DROPPED, payload)
 }

@@ -54,12 +54,14 @@ counterOf p = getD p 3 0 % 16
 abbrev pub adaptationLength : List ℕ → ℕ
 adaptationLength p = getD p 4 0
 
+-- Control 10 needs adaptation length 183, control 11 needs 0 to 182.
 abbrev pub rightLength : ℕ → ℕ → Bool
 rightLength control length = cond (eqb control 2) (eqb length 183) (cond (eqb control 3) (leb length 182) true)
 
 abbrev pub lengthRight : List ℕ → Bool
 lengthRight p = rightLength (controlOf p) (adaptationLength p)
 
+-- Length 0 has no discontinuity indicator: it counts as 0. With a wrong length it counts as 0 too
 abbrev pub indicator : List ℕ → Bool
 indicator p = leb 2 (controlOf p) && lengthRight p && ltb 0 (adaptationLength p) && leb 128 (getD p 5 0)
 

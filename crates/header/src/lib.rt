@@ -29,10 +29,12 @@ pub struct Header {
 fn right_length(control: u8, length: u8) -> bool
     ensures { λ r. ⌜ r ≡ rightLength control length ⌝ }
 {
-    if control == 2 {
+    // Control 10 needs adaptation length 183,
+    if control == 0b10 {
         return length == 183;
     }
-    if control == 3 {
+    // control 11 needs 0 to 182.
+    if control == 0b11 {
         return length <= 182;
     }
     true
@@ -42,10 +44,10 @@ fn right_length(control: u8, length: u8) -> bool
 fn payload_place(control: u8, length: u8) -> usize
     ensures { λ r. ⌜ r ≡ payloadPlace control length ⌝ }
 {
-    if control == 1 {
+    if control == 0b01 {
         return 4;
     }
-    if control == 3 {
+    if control == 0b11 {
         if length <= 182 {
             return 5 + length as usize;
         }
@@ -76,7 +78,8 @@ pub fn read(p: &[u8]) -> Header
         control: control,
         counter: p[3] % 16,
         right: right,
-        discontinuity: (2 <= control) & right & (0 < length) & (128 <= p[5]),
+        // Length 0 has no discontinuity indicator: it counts as 0. With a wrong length it counts as 0 too
+        discontinuity: (0b10 <= control) & right & (0 < length) & (128 <= p[5]),
         payload: payload_place(control, length),
     }
 }

@@ -176,7 +176,7 @@ fn loud() -> Glance
 }
 
 // Whether the packet is one of which only the counter is looked at, with nothing to be said of it, by its header and the
-// byte of its PID in the counter table.
+// byte of its PID in the counter table. Step 4 is judged here by the function that judges it for every other packet.
 fn count_quiet(packet: &[u8], h: Header, byte: u8) -> Glance
     requires { ⌜ (length (now packet) ≡ packetSize) × (h ≡ headerOf (now packet)) ⌝ }
     ensures { λ g. ⌜ g ≡ glanceOf (countQuiet (now (packet .entry)) byte) (now (packet .entry)) byte ⌝ }

@@ -17,10 +17,10 @@
 --   stateQuiet s m t q    == the state is quiet for a packet of the PID q
 --   headQuiet x           == a right sync byte, no error bit, a PID of 0x0020 or above
 --   idlePacket x          == step 3: a null packet, or control 00
---   byteQuiet x b         == a table byte that these calls leave, and no event of step 4
+--   byteQuiet x b         == a table byte that these calls leave, and no event of step 4, which is `countedOf` as for every other packet
 --   countQuiet x b        == a packet of which only the counter is looked at, with nothing to be said of it
 --   quietCall s m t x b   == a call that refusals 1 to 4 pass is quiet
---   quietByte x b         == the byte after step 3, or step 4
+--   quietByte x b         == the byte after step 3, or after step 4, `countedOf` again
 --   glanceOf quiet x b    == what is told of a call: whether it is quiet, and then the byte that it leaves
 use Prim.Native.Nat.{ℕ, _%_}
 use mathlib.Core.Bool.{Bool, true, false, cond, not, _&&_, _||_}
