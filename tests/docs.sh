@@ -1,8 +1,8 @@
 #!/usr/bin/env bash
 # The documents keep up with the code: each public function has its row in docs/PROMISES.md, each crate its row in
 # docs/ARCHITECTURE.md; each row of the table of rules names its file and what is defined there; every name in docs/DECISIONS.md and
-# docs/PROMISES.md is that of something; and each file of definitions has a glossary with every public name and no other, none of
-# two meanings.
+# docs/PROMISES.md is that of something; docs/TRAINING.md has the lines that it quotes where it says; and each file of definitions has
+# a glossary with every public name and no other, none of two meanings.
 set -uo pipefail
 cd "$(dirname "$0")/.." || exit 1
 passed=0
@@ -81,6 +81,15 @@ for file in crates/*/specs/*.antt; do
     ! grep -q 'specs\.inner\.' "$file"
     check $? "$file cites specs/inner"
 done
+
+# step 4 sentence by sentence, with its worked table
+training=$(awk -f tests/training.awk docs/TRAINING.md)
+read -r asked faults <<< "$(tail -n 1 <<< "$training")"
+head -n -1 <<< "$training"
+passed=$((passed + asked - faults))
+failed=$((failed + faults))
+[ "$asked" -gt 300 ]
+check $? "docs/TRAINING.md: its tables were not read"
 
 # glossaries
 glossary=$(find crates -path '*/specs/*.antt' ! -name Lib.antt ! -name inner.antt | sort | xargs awk -f tests/glossary.awk)
