@@ -7,7 +7,8 @@ use crate::streams::Stream;
 use songpigeon::lent::{self, place};
 use songpigeon_reference::probe::{self, EVENT_ROOM, LATEST_TIME};
 use songpigeon_reference::sections::base;
-use songpigeon_reference::{Entry, Event, State};
+use songpigeon_reference::streams::NULL_PID;
+use songpigeon_reference::{case_met, Entry, Event, State};
 use std::array;
 
 /// Lent memory is longer than it need be, so that other lengths can be handed in.
@@ -204,6 +205,18 @@ impl Pair {
         near.min(LATEST_TIME)
     }
 
+    /// The case of step 4 that a packet is, where it comes so far in sync.
+    fn continuity_case(&self, packet: &[u8]) -> Option<String> {
+        let whole = packet.len() == probe::PACKET && packet[0] == 0x47 && packet[1] & 0x80 == 0 && packet[3] & 0x30 != 0;
+        if !whole || self.state.lost {
+            return None;
+        }
+        let pid = u16::from_be_bytes([packet[1] & 0x1F, packet[2]]);
+        let (case, wrong_length) = case_met(packet, self.counters[usize::from(pid)]);
+        let length = if wrong_length { ", wrong length" } else { "" };
+        (pid != NULL_PID).then(|| format!("step 4 {:?}{}", case, length))
+    }
+
     /// One call of a log. Says what came of it.
     pub fn call(&mut self, stream: &mut Stream, random: &Random, seen: &mut Coverage) -> Result<(), String> {
         let time = self.time(random);
@@ -221,7 +234,12 @@ impl Pair {
             if odd {
                 packet.resize(random.pick(&[0, 1, 187, 188, 188, 188, 189, 376]), 0x47);
             }
-            ("packet", self.packet(time, &packet, table, room)?)
+            let case = self.continuity_case(&packet);
+            let result = self.packet(time, &packet, table, room)?;
+            if let (Ok(_), Some(case)) = (result, case) {
+                seen.met(case);
+            }
+            ("packet", result)
         };
         match result {
             Err(refusal) => seen.met(format!("{} refused {}", kind, refusal)),

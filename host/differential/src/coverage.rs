@@ -7,7 +7,8 @@ pub struct Coverage {
     met: BTreeMap<String, u64>,
 }
 
-/// Every fault with each of its causes, and every refusal that the calls, test data and the text can give.
+/// Every fault with each of its causes, every case of step 4 with each length that it can have, and every refusal that the
+/// calls, test data and the text can give.
 const OWED: &[&str] = &[
     "call accepted",
     "event 0001 1",
@@ -40,6 +41,21 @@ const OWED: &[&str] = &[
     "clock refused 4",
     "clock refused 5",
     "clock refused 6",
+    "step 4 Indicated",
+    "step 4 Unseen",
+    "step 4 Unseen, wrong length",
+    "step 4 EqualUnder10",
+    "step 4 EqualUnder10, wrong length",
+    "step 4 AnotherUnder10",
+    "step 4 AnotherUnder10, wrong length",
+    "step 4 Next",
+    "step 4 Next, wrong length",
+    "step 4 Once",
+    "step 4 Once, wrong length",
+    "step 4 Again",
+    "step 4 Again, wrong length",
+    "step 4 AnyOther",
+    "step 4 AnyOther, wrong length",
     "severity refused 7",
     "severity given",
     "test data read",

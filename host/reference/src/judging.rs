@@ -33,6 +33,40 @@ fn field_of(packet: &[u8], control: u8) -> Field<'_> {
     }
 }
 
+/// The cases of step 4, in the paper's order.
+#[derive(Clone, Copy, Debug, PartialEq, Eq)]
+pub enum Case {
+    Indicated,
+    Unseen,
+    EqualUnder10,
+    AnotherUnder10,
+    Next,
+    Once,
+    Again,
+    AnyOther,
+}
+
+fn case_of(table_byte: u8, control: u8, counter: u8, field: &Field) -> Case {
+    let (last, repeated) = (table_byte & 0x0F, table_byte >= 48);
+    match control {
+        _ if field.discontinuity => Case::Indicated,
+        _ if table_byte == 0 => Case::Unseen,
+        2 if counter == last => Case::EqualUnder10,
+        2 => Case::AnotherUnder10,
+        _ if counter == (last + 1) % 16 => Case::Next,
+        _ if counter == last && !repeated => Case::Once,
+        _ if counter == last => Case::Again,
+        _ => Case::AnyOther,
+    }
+}
+
+/// The case of step 4 that a packet is which comes so far, and whether its adaptation length is wrong.
+pub fn case_met(packet: &[u8], table_byte: u8) -> (Case, bool) {
+    let control = packet[3] >> 4 & 3;
+    let field = field_of(packet, control);
+    (case_of(table_byte, control, packet[3] & 0x0F, &field), field.wrong_length)
+}
+
 impl Call<'_> {
     /// An event of the packet itself.
     pub(crate) fn say(&mut self, fault: u16, cause: u8) {
@@ -102,33 +136,36 @@ impl Call<'_> {
             self.state.drop_half_built(self.pid);
         }
         let counter = self.packet[3] & 0x0F;
-        let (last, repeated) = (*table_byte & 0x0F, *table_byte >= 48);
-        if field.discontinuity || *table_byte == 0 {
-            *table_byte = 16 + counter;
-            self.state.drop_half_built(self.pid);
-            return true;
-        }
-        if control == 2 {
-            if counter != last {
+        match case_of(*table_byte, control, counter, field) {
+            Case::Indicated | Case::Unseen => {
                 *table_byte = 16 + counter;
-                self.say(fault::CONTINUITY, cause::NONE);
+                self.state.drop_half_built(self.pid);
+                true
             }
-            return false;
-        }
-        if counter == (last + 1) % 16 {
-            *table_byte = 16 + counter;
-            true
-        } else if counter == last && !repeated {
-            *table_byte = 48 + counter;
-            false
-        } else if counter == last {
-            self.say(fault::CONTINUITY, cause::NONE);
-            false
-        } else {
-            *table_byte = 16 + counter;
-            self.say(fault::CONTINUITY, cause::NONE);
-            self.state.drop_half_built(self.pid);
-            true
+            Case::EqualUnder10 => false,
+            Case::AnotherUnder10 => {
+                self.say(fault::CONTINUITY, cause::NONE);
+                *table_byte = 16 + counter;
+                false
+            }
+            Case::Next => {
+                *table_byte = 16 + counter;
+                true
+            }
+            Case::Once => {
+                *table_byte = 48 + counter;
+                false
+            }
+            Case::Again => {
+                self.say(fault::CONTINUITY, cause::NONE);
+                false
+            }
+            Case::AnyOther => {
+                self.say(fault::CONTINUITY, cause::NONE);
+                *table_byte = 16 + counter;
+                self.state.drop_half_built(self.pid);
+                true
+            }
         }
     }
 

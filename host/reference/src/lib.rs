@@ -4,7 +4,7 @@
 //! reading of the same sentences, and that it agrees with the product over many logs (`host/differential`).
 //!
 //! * [`probe`]: the calls (opening, packet, clock), the refusals and lateness; beside it, not public, the five steps
-//!   (`judging`) and what sections and lists do (`building`)
+//!   (`judging`, of which only the cases of step 4 are told, for reports) and what sections and lists do (`building`)
 //! * [`sections`]: section memory and how far a section in it has come
 //! * [`crc`]: CRC_32, one bit after the other
 //! * [`severity`]: the classes of A/78
@@ -23,4 +23,5 @@ pub mod streams;
 pub mod testdata;
 pub mod text;
 
+pub use judging::{case_met, Case};
 pub use probe::{clock, open, packet, Entry, Event, Memory, Opening, State};
