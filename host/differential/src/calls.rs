@@ -207,7 +207,8 @@ impl Pair {
 
     /// The case of step 4 that a packet is, where it comes so far in sync.
     fn continuity_case(&self, packet: &[u8]) -> Option<String> {
-        let whole = packet.len() == probe::PACKET && packet[0] == 0x47 && packet[1] & 0x80 == 0 && packet[3] & 0x30 != 0;
+        let whole =
+            packet.len() == probe::PACKET && packet[0] == 0x47 && packet[1] & 0x80 == 0 && packet[3] & 0x30 != 0;
         if !whole || self.state.lost {
             return None;
         }

@@ -3,7 +3,7 @@
 
 use crate::random::Random;
 use songpigeon_reference::streams::*;
-use std::collections::HashMap;
+use std::collections::{HashMap, HashSet};
 
 const PMT_PIDS: [u16; 6] = [0x0020, 0x0021, 0x0100, 0x0101, 0x1000, 0x1FFE];
 
@@ -12,6 +12,8 @@ pub struct Stream {
     /// what is left of the section that a PID is in the middle of
     pending: HashMap<u16, Vec<u8>>,
     list: Vec<(u16, u16)>,
+    /// the PIDs whose counter stands still
+    stuttering: HashSet<u16>,
     /// one wrong thing in so many
     calm: u64,
 }
@@ -19,7 +21,8 @@ pub struct Stream {
 impl Stream {
     pub fn new(random: &Random) -> Stream {
         let list = (1..=random.below(6) as u16).map(|n| (n, random.pick(&PMT_PIDS))).collect();
-        Stream { counters: HashMap::new(), pending: HashMap::new(), list, calm: random.pick(&[4, 20, 100, 1_000]) }
+        let calm = random.pick(&[4, 20, 100, 1_000]);
+        Stream { counters: HashMap::new(), pending: HashMap::new(), list, stuttering: HashSet::new(), calm }
     }
 
     fn wrong(&self, random: &Random) -> bool {
@@ -40,18 +43,24 @@ impl Stream {
     pub fn packet(&mut self, random: &Random) -> [u8; 188] {
         let pid = self.pid(random);
         let last = self.counters.get(&pid).copied().unwrap_or(random.byte() & 15);
+        let stutters = self.stutters(pid, random);
         let mut control = 1;
-        if random.once_in(8) {
+        if random.once_in(if stutters { 2 } else { 8 }) {
             control = random.pick(&[3, 3, 3, 2, 0]);
         }
         let moves = control & 1;
-        let counter =
-            if self.wrong(random) { random.pick(&[last, last, random.byte() & 15]) } else { (last + moves) & 15 };
+        let counter = if stutters {
+            last
+        } else if self.wrong(random) {
+            random.pick(&[last, last, random.byte() & 15])
+        } else {
+            (last + moves) & 15
+        };
         self.counters.insert(pid, counter);
         let mut packet = Packet::on(pid, counter).control(control);
         let mut room = 184;
         if control & 2 != 0 {
-            let length = self.length(control, random);
+            let length = self.length(control, stutters && random.once_in(2) || self.wrong(random), random);
             let flags = if random.once_in(5) { random.byte() } else { 0 };
             packet = packet.field(control, length, flags);
             room = 183usize.saturating_sub(usize::from(length));
@@ -66,8 +75,19 @@ impl Stream {
         self.spoiled(packet, random).bytes()
     }
 
-    fn length(&self, control: u8, random: &Random) -> u8 {
-        if self.wrong(random) {
+    /// Whether the PID's counter stands still: now and then it begins to, and goes on so for some packets.
+    fn stutters(&mut self, pid: u16, random: &Random) -> bool {
+        let stutters = if self.stuttering.contains(&pid) { !random.once_in(4) } else { self.wrong(random) };
+        if stutters {
+            self.stuttering.insert(pid);
+        } else {
+            self.stuttering.remove(&pid);
+        }
+        stutters
+    }
+
+    fn length(&self, control: u8, wrong: bool, random: &Random) -> u8 {
+        if wrong {
             return random.pick(&[0, 1, 182, 183, 184, 255, random.byte()]);
         }
         match control {
