@@ -27,8 +27,11 @@ for crate in $(sed -n 's/^\([a-z0-9_]*\):.*/\1/p' crates.txt); do
     done
 done
 
-# every path under crates/, tests/, host/, docs/ or planted/ that a document names
-for path in $(grep -ohE '`(crates|tests|host|docs|planted)/[a-z][A-Za-z0-9_./{},-]*`' README.md docs/*.md | tr -d '\140' | sort -u); do
+# every path under crates/, tests/, host/, docs/ or planted/ that a document names; crates/ may be left out before a crate's folder
+for path in $({
+    grep -ohE '`(crates|tests|host|docs|planted)/[a-z][A-Za-z0-9_./{},-]*`' README.md docs/*.md
+    grep -ohE '`[a-z_]+/(specs|src|proofs|must-fail)/[A-Za-z0-9_./]*`' README.md docs/*.md | sed 's|`|`crates/|'
+} | tr -d '\140' | sort -u); do
     for one in $(eval "echo $path"); do # braces: several files of a folder
         [ -e "$one" ]
         check $? "a document names $one, which is not there"
@@ -68,10 +71,13 @@ trap 'rm -f "$words"' EXIT
     find crates host tests -name '*.antt' -o -name '*.rt' -o -name '*.rs' -o -name '*.[ch]' -o -name '*.sh' -o -name stdout |
         xargs grep -ohE "[A-Za-z0-9_.'-]+"
 } | sort -u > "$words"
-named=$(cat docs/DECISIONS.md docs/PROMISES.md | grep -oE '`[^`/ ]+`' | tr -d '\140' | sed 's/.*:://; s/\.antt$//' | sort -u)
+named=$({
+    cat docs/DECISIONS.md docs/PROMISES.md | grep -oE '`[^`/ ]+`'
+    grep -oE '`([a-z]+::)?[a-z][A-Za-z0-9_-]{3,}`' docs/TRAINING.md
+} | tr -d '\140' | sed 's/.*:://; s/\.antt$//' | sort -u)
 for name in $named; do
     grep -qxF -- "$name" "$words"
-    check $? "docs/DECISIONS.md or docs/PROMISES.md names $name, which is not there"
+    check $? "docs/DECISIONS.md, docs/PROMISES.md or docs/TRAINING.md names $name, which is not there"
 done
 [ "$(wc -w <<< "$named")" -gt 300 ]
 check $? "docs/DECISIONS.md and docs/PROMISES.md: what they name was not read"
@@ -82,7 +88,13 @@ for file in crates/*/specs/*.antt; do
     check $? "$file cites specs/inner"
 done
 
-# step 4 sentence by sentence, with its worked table
+# step 4 sentence by sentence, with its worked table; the quotation is the paper's, by its checksum
+[ "$(sed -n 's/^> //p' docs/TRAINING.md | paste -sd ' ' | tr -d '\n' | cksum)" = '264896380 835' ]
+check $? "docs/TRAINING.md: its quotation is not step 4 of document 01"
+for point in $(grep -oE '\bK[0-9]+' docs/TRAINING.md | sort -u); do
+    grep -q "^\*\*$point[. ]" docs/DECISIONS.md
+    check $? "docs/TRAINING.md names $point, which docs/DECISIONS.md has not"
+done
 training=$(awk -f tests/training.awk docs/TRAINING.md)
 read -r asked faults <<< "$(tail -n 1 <<< "$training")"
 head -n -1 <<< "$training"

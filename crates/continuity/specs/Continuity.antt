@@ -7,7 +7,7 @@
 --   knownByte b      == a table byte that these calls leave: 0, 16..31 or 48..63
 --   control10, control11 h == adaptation_field_control is 10; 11
 --   payloadToTake h  == there is a payload to take: not with a wrong length, and control 10 has none
---   sectionStays h   == no wrong length under control 11, which drops the half-built section
+--   sectionStays h   == the half-built section is not dropped by a wrong length; under control 10 it never is
 --   isNext b h       == the packet's counter is c+1 mod 16
 --   isLast b h       == it is c
 --   anEvent, noEvent == 0x000E is given; it is not
@@ -45,8 +45,8 @@ abbrev pub control11 : Header → Bool
 control11 h = eqb (h .control) 3
 
 -- Control 10 needs adaptation length 183, control 11 needs 0 to 182. Length 0 has no discontinuity indicator: it counts as 0. With a wrong length it
--- counts as 0 too (so far `rightLength` and `indicator`, header/specs/Header.antt: h's `right` and `discontinuity`)
--- and there is no payload to take
+-- counts as 0 too [so far header/specs/Header.antt, `rightLength` and `indicator`: h's `right` and `discontinuity`]
+-- and there is no payload to take [control 10 has none]
 abbrev pub payloadToTake : Header → Bool
 payloadToTake h = h .right && not (control10 h)
 

@@ -58,8 +58,8 @@ pub fn judge(byte: u8, h: Header) -> Counted
     let repeated = 48 <= byte;
 
     // Control 10 needs adaptation length 183, control 11 needs 0 to 182. Length 0 has no discontinuity indicator: it counts as 0.
-    // With a wrong length it counts as 0 too (so far in `header`, which hands over `right` and `discontinuity`)
-    // and there is no payload to take
+    // With a wrong length it counts as 0 too [so far `header`: `h.right`, `h.discontinuity`]
+    // and there is no payload to take [control 10 has none]
     let payload = h.right & !control_10;
     // (control 11 also drops the PID's half-built section).
     let section = h.right | !control_11;

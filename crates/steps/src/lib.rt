@@ -131,7 +131,7 @@ fn judge_scrambled(words: &[u16], time: u64, pid: u16, numbers: &mut [u64], n: u
 }
 
 // The event of step 4, if there is one.
-fn judge_continuity(event: bool, time: u64, pid: u16, numbers: &mut [u64], n: usize) -> usize
+fn tell_continuity(event: bool, time: u64, pid: u16, numbers: &mut [u64], n: usize) -> usize
     requires { ⌜ (n < leastCapacity) × (numberCapacity ≤ length (now numbers)) ⌝ }
     ensures { λ r. ⌜ (r ≡ n + length (faultEvents time pid (cond event (continuityError ∷ []) [])))
         × (now (numbers .exit) ≡ eventsLaid (now (numbers .entry)) n (faultEvents time pid (cond event (continuityError ∷ []) [])))
@@ -184,7 +184,7 @@ fn take_course(
     )
 }
 
-// Steps 4 and 5, by the table byte of the packet's PID.
+// Steps 4 and 5, by the table byte of the packet's PID. `continuity::judge` is step 4; what it leaves is acted on here.
 fn judge_counter(
     times: &mut [u64],
     words: &mut [u16],
@@ -207,7 +207,7 @@ fn judge_counter(
     let j = continuity::judge(byte, h);
     counters[pid] = j.byte;
     let room = room_for(words, h.pid);
-    let next = judge_continuity(j.event, time, h.pid, numbers, n);
+    let next = tell_continuity(j.event, time, h.pid, numbers, n);
     if h.scrambled {
         let last = judge_scrambled(words, time, h.pid, numbers, next);
         drop_room(words, room);

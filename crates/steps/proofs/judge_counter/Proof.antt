@@ -33,8 +33,8 @@ slice-write-counters c = search needs
 room-for-requires : tie.Need-room-for-requires
 room-for-requires c κs = search needs
 
-judge-continuity-requires : tie.Need-judge-continuity-requires
-judge-continuity-requires c κs = search needs
+tell-continuity-requires : tie.Need-tell-continuity-requires
+tell-continuity-requires c κs = search needs
 
 judge-scrambled-requires : tie.Need-judge-scrambled-requires
 judge-scrambled-requires c κs = search needs
@@ -62,7 +62,7 @@ returns c =
     let j = c .before .before .before .before .before .before .before .before .before .before .before .before .before .before .before .before .judge in
     let verdict = rw (start .pre .1 .0 .byte, start .pre .1 .0 .header) at (j .ensures) in
     let room = rw (f .pid) at (c .before .before .before .before .before .before .before .before .before .before .before .before .before .before .room-for .ensures times) in
-    let said = rw (f .pid) at (c .before .before .before .before .before .before .before .before .before .before .before .before .judge-continuity .ensures) in
+    let said = rw (f .pid) at (c .before .before .before .before .before .before .before .before .before .before .before .before .tell-continuity .ensures) in
     let dropped = c .before .before .drop-room .ensures in
     let more = rw (f .pid) at (c .before .before .before .before .before .before .judge-scrambled .ensures .0 times) in
     let w = laid-turn numbersOf recordWidth (λ e. refl) _ _ _ _ _ _ _ _ (said .0) (said .1) (more .0) (more .1) in
@@ -83,7 +83,7 @@ take-course-requires c κs =
     let j = c .before .before .before .before .before .before .before .before .before .before .before .before .judge in
     let verdict = rw (start .pre .1 .0 .byte, start .pre .1 .0 .header) at (j .ensures) in
     let room = rw (f .pid) at (c .before .before .before .before .before .before .before .before .before .before .room-for .ensures times) in
-    let said = rw (f .pid) at (c .before .before .before .before .before .before .before .before .judge-continuity .ensures) in
+    let said = rw (f .pid) at (c .before .before .before .before .before .before .before .before .tell-continuity .ensures) in
     let ready = start .pre .0 .1 in (
       (
         start .pre .0 .0,
@@ -122,7 +122,7 @@ returns-2 c =
     let j = c .before .before .before .before .before .before .before .before .before .before .before .before .before .before .before .before .before .before .before .judge in
     let verdict = rw (start .pre .1 .0 .byte, start .pre .1 .0 .header) at (j .ensures) in
     let room = rw (f .pid) at (c .before .before .before .before .before .before .before .before .before .before .before .before .before .before .before .before .before .room-for .ensures times) in
-    let said = rw (f .pid) at (c .before .before .before .before .before .before .before .before .before .before .before .before .before .before .before .judge-continuity .ensures) in
+    let said = rw (f .pid) at (c .before .before .before .before .before .before .before .before .before .before .before .before .before .before .before .tell-continuity .ensures) in
     let course = c .before .before .before .before .before .before .take-course .ensures in (
       rw (f .pid) (done-as (counter-clear (args .time) packet (now (args .counters)) core (j .result) verdict (now (args .memory)) (sym (f .scrambled) ∙ c .before .before .before .before .before .before .before .before .before .before .before .before .if1 .left))
           (done-also _ _ 1 62 _ _ _ _ _ _ _ _ _ (said .0) (said .1) (said .2) (rw room at (course .0 (set (now (args .counters)) (pidOf packet) (j .result .byte)))))),
@@ -137,7 +137,7 @@ judge-counter-spec =
     judge-requires
     slice-write-counters
     room-for-requires
-    judge-continuity-requires
+    tell-continuity-requires
     judge-scrambled-requires
     drop-room-requires
     same-length

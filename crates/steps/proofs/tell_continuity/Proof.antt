@@ -1,10 +1,10 @@
--- `steps::judge_continuity` meets its contract. Assumes nothing.
+-- `steps::tell_continuity` meets its contract. Assumes nothing.
 use borrow.Author.Needs.{needs}
 use mathlib.Core.Path.{sym}
 use native.Mathlib.Omega.{arith}
 use Rattle.lists.proofs.Laying.{laid-none}
-use Rattle.steps.proofs.judge_continuity.Statement.{statement}
-use Rattle.steps.proofs.judge_continuity.Tie as tie
+use Rattle.steps.proofs.tell_continuity.Statement.{statement}
+use Rattle.steps.proofs.tell_continuity.Tie as tie
 
 put-requires : tie.Need-put-requires
 put-requires c κs = search needs
@@ -20,5 +20,5 @@ returns c =
 returns-2 : tie.Need-returns-2
 returns-2 c = rw (c .if1 .left) (omega arith, sym (laid-none _ _ _ _), omega arith)
 
-pub judge-continuity-spec : {M : Type 1} → statement M
-judge-continuity-spec = tie.close (tie.spec put-requires same-length returns returns-2)
+pub tell-continuity-spec : {M : Type 1} → statement M
+tell-continuity-spec = tie.close (tie.spec put-requires same-length returns returns-2)
