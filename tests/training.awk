@@ -1,6 +1,6 @@
-# Reads docs/TRAINING.md, and the files that it names as it names them. The quotation of step 4 is its rows one after the other; in each row every
-# line stands in its file under the number given, the numbers rise down a table, and the comment that comes next above the first
-# one has the row's sentence; each row of the worked table says of its bytes what they are, and is an example of `Worked`, and each example is a
+# Reads docs/TRAINING.md, and the files that it names as it names them. The quotation of step 4 is its rows one after the other; in each row the
+# lines of definition and code stand in their file under the numbers given, the numbers rise, and the comment that comes next above
+# them has the row's sentence; each row of the worked table says of its bytes what they are, and is an example of `Worked`, and each example is a
 # row. Prints what is wrong; the last line says how many things were asked and how many are wrong.
 function ask(holds, text) {
     asked++
@@ -28,27 +28,25 @@ function comment(file, at,    text, line) {
     }
     return text
 }
-# a cell of line numbers, each with its line, one behind the other
-function judge(file, text, sentence,    first, at, quoted) {
+# lines of a file, trimmed and joined
+function joined(file, at, to,    text) {
+    for (; at <= to; at++) text = text (text == "" ? "" : " ") trimmed(source[file, at])
+    return text
+}
+# a cell: a line with its number, or several with their first and last
+function judge(file, text, sentence,    at, to, quoted) {
     load(file)
-    while (match(text, /[0-9]+ `[^`]+`/)) {
-        ask(trimmed(substr(text, 1, RSTART - 1)) == (first ? "," : ""), "more than a line of " file " for: " sentence)
-        at = substr(text, RSTART) + 0
-        quoted = substr(text, RSTART, RLENGTH)
-        text = substr(text, RSTART + RLENGTH)
-        sub(/^[0-9]+ `/, "", quoted)
-        sub(/`$/, "", quoted)
-        ask(trimmed(source[file, at]) == quoted, file ":" at " is not " quoted)
-        if (first) {
-            ask(at == last[file] + 1, file ":" at " does not follow the line before it")
-        } else {
-            ask(at >= last[file], file ":" at " stands before the row above it")
-            ask(index(comment(file, at), sentence) > 0, file ":" at " does not have above it: " sentence)
-            first = at
-        }
-        last[file] = at
-    }
-    ask(first && trimmed(text) == "", "no line of " file ", or more than that, for: " sentence)
+    text = trimmed(text)
+    ask(match(text, /^[0-9]+( to [0-9]+)? `[^`]+`$/), "no lines of " file ", or more than that, for: " sentence)
+    at = text + 0
+    to = text ~ /^[0-9]+ to / ? substr(text, index(text, " to ") + 4) + 0 : at
+    quoted = text
+    sub(/^[^`]*`/, "", quoted)
+    sub(/`$/, "", quoted)
+    ask(joined(file, at, to) == quoted, file ":" at " is not " quoted)
+    ask(at >= last[file], file ":" at " stands before the row above it")
+    ask(index(comment(file, at), sentence) > 0, file ":" at " does not have above it: " sentence)
+    last[file] = to
 }
 function words(cell, n, word) {
     gsub(/`/, "", cell)

@@ -6,7 +6,7 @@ use Prim.Native.Nat.{ℕ, _+_, _%_}
 use lib.Dec.{leb, eqb}
 use Rattle.header.specs.declared.Header.{Header}
 use Rattle.continuity.specs.declared.Counted.{Counted}
-use Rattle.continuity.specs.Continuity.{isUnseen, repeatedOnce, control10, control11, isNext, isLast, leave, countedOf}
+use Rattle.continuity.specs.Continuity.{isUnseen, repeatedOnce, control10, control11, isNext, isLast, countedOf}
 
 -- THE FORM BEFORE
 abbrev begun : ℕ → Counted
@@ -52,6 +52,9 @@ stays true true = refl
 stays true false = refl
 stays false true = refl
 stays false false = refl
+
+abbrev leave : ℕ → Bool → Bool → Bool → Counted
+leave byte event keep take = record { byte = byte; event = event; keep = keep; take = take }
 
 -- each form, over the answers to what it asks
 module _ (b n : ℕ) (right eleven : Bool) where

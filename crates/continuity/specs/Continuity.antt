@@ -10,10 +10,8 @@
 --   sectionStays h   == the half-built section is not dropped by a wrong length; under control 10 it never is
 --   isNext b h       == the packet's counter is c+1 mod 16
 --   isLast b h       == it is c
---   anEvent, noEvent == 0x000E is given; it is not
---   sectionDropped, payloadSkipped == what they say
---   leave byte event keep take == what a case leaves: the table byte, an event, the half-built section kept, the payload taken
---   counterCase payload section b h == the cases, the first that holds; payload and section are what the adaptation length leaves to them
+--   counterCase payload section b h == the cases, the first that holds, with all that it leaves: the PID's next table byte, 0x000E or no event, the half-built
+--                       section kept or dropped, the payload taken or skipped; payload and section are what the adaptation length leaves to them
 --   countedOf b h    == step 4 whole: the adaptation length, then the case
 use Prim.Native.Nat.{ℕ, _+_, _%_}
 use mathlib.Core.Bool.{Bool, true, false, cond, not, _&&_, _||_}
@@ -62,37 +60,22 @@ abbrev pub isLast : ℕ → Header → Bool
 isLast b h = eqb (h .counter) (lastOf b)
 
 -- THE CASES
-abbrev pub anEvent : Bool
-anEvent = true
-
-abbrev pub noEvent : Bool
-noEvent = false
-
-abbrev pub sectionDropped : Bool
-sectionDropped = false
-
-abbrev pub payloadSkipped : Bool
-payloadSkipped = false
-
-abbrev pub leave : ℕ → Bool → Bool → Bool → Counted
-leave byte event keep take = record { byte = byte; event = event; keep = keep; take = take }
-
 abbrev pub counterCase : Bool → Bool → ℕ → Header → Counted
 counterCase payload section b h =
     -- A set discontinuity indicator, or an unseen PID: byte becomes 16+counter, no event, half-built section dropped, payload taken.
-    cond (h .discontinuity || isUnseen b) (leave (16 + h .counter) noEvent sectionDropped payload)
+    cond (h .discontinuity || isUnseen b) (record { byte = 16 + h .counter; event = false; keep = false; take = payload })
     -- Control 10: an equal counter changes nothing;
-    (cond (control10 h && isLast b h) (leave b noEvent section payloadSkipped)
+    (cond (control10 h && isLast b h) (record { byte = b; event = false; keep = section; take = false })
     -- another gives 0x000E and 16+counter, half-built section kept.
-    (cond (control10 h) (leave (16 + h .counter) anEvent section payloadSkipped)
+    (cond (control10 h) (record { byte = 16 + h .counter; event = true; keep = section; take = false })
     -- Controls 01 and 11: counter c+1 mod 16 gives 16+counter, payload taken.
-    (cond (isNext b h) (leave (16 + h .counter) noEvent section payload)
+    (cond (isNext b h) (record { byte = 16 + h .counter; event = false; keep = section; take = payload })
     -- Counter c once is a repeat: 48+c, payload skipped, no event.
-    (cond (isLast b h && not (repeatedOnce b)) (leave (48 + h .counter) noEvent section payloadSkipped)
+    (cond (isLast b h && not (repeatedOnce b)) (record { byte = 48 + h .counter; event = false; keep = section; take = false })
     -- Counter c again: 0x000E, byte stays, payload skipped.
-    (cond (isLast b h) (leave b anEvent section payloadSkipped)
+    (cond (isLast b h) (record { byte = b; event = true; keep = section; take = false })
     -- Any other: 0x000E, 16+counter, half-built section dropped, payload taken.
-    (leave (16 + h .counter) anEvent sectionDropped payload))))))
+    (record { byte = 16 + h .counter; event = true; keep = false; take = payload }))))))
 
 -- THE STEP
 unfoldable pub countedOf : ℕ → Header → Counted

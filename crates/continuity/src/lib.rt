@@ -3,35 +3,15 @@
 use header::Header;
 ghost use mathlib.Core.Path.{_≡_};
 ghost use Prim.Native.Nat.{_<_};
-ghost use Rattle.continuity.specs.Continuity.{knownByte, leave, countedOf};
+ghost use Rattle.continuity.specs.Continuity.{knownByte, countedOf};
 
-// The PID's next table byte, whether there is a continuity error, whether its half-built section is
-// kept, and whether the payload is taken.
+// What step 4 leaves: the PID's next table byte, whether there is an event (0x000E), whether the half-built section is kept,
+// and whether the payload is taken.
 pub struct Counted {
     pub byte: u8,
     pub event: bool,
     pub keep: bool,
     pub take: bool,
-}
-
-// What a case leaves of the event (0x000E), the half-built section and the payload.
-const NO_EVENT: bool = false;
-
-const EVENT: bool = true;
-
-const SECTION_DROPPED: bool = false;
-
-const PAYLOAD_SKIPPED: bool = false;
-
-fn leave(byte: u8, event: bool, keep: bool, take: bool) -> Counted
-    ensures { λ r. ⌜ r ≡ leave byte event keep take ⌝ }
-{
-    Counted {
-        byte: byte,
-        event: event,
-        keep: keep,
-        take: take,
-    }
 }
 
 // Whether a table byte is one that these calls leave: 0, 16..31 or 48..63.
@@ -66,28 +46,63 @@ pub fn judge(byte: u8, h: Header) -> Counted
 
     // A set discontinuity indicator, or an unseen PID: byte becomes 16+counter, no event, half-built section dropped, payload taken.
     if h.discontinuity | unseen {
-        return leave(16 + counter, NO_EVENT, SECTION_DROPPED, payload);
+        return Counted {
+            byte: 16 + counter,
+            event: false,
+            keep: false,
+            take: payload,
+        };
     }
     // Control 10: an equal counter changes nothing;
     if control_10 & (counter == last) {
-        return leave(byte, NO_EVENT, section, PAYLOAD_SKIPPED);
+        return Counted {
+            byte: byte,
+            event: false,
+            keep: section,
+            take: false,
+        };
     }
     // another gives 0x000E and 16+counter, half-built section kept.
     if control_10 {
-        return leave(16 + counter, EVENT, section, PAYLOAD_SKIPPED);
+        return Counted {
+            byte: 16 + counter,
+            event: true,
+            keep: section,
+            take: false,
+        };
     }
     // Controls 01 and 11: counter c+1 mod 16 gives 16+counter, payload taken.
     if counter == (last + 1) % 16 {
-        return leave(16 + counter, NO_EVENT, section, payload);
+        return Counted {
+            byte: 16 + counter,
+            event: false,
+            keep: section,
+            take: payload,
+        };
     }
     // Counter c once is a repeat: 48+c, payload skipped, no event.
     if (counter == last) & !repeated {
-        return leave(48 + counter, NO_EVENT, section, PAYLOAD_SKIPPED);
+        return Counted {
+            byte: 48 + counter,
+            event: false,
+            keep: section,
+            take: false,
+        };
     }
     // Counter c again: 0x000E, byte stays, payload skipped.
     if counter == last {
-        return leave(byte, EVENT, section, PAYLOAD_SKIPPED);
+        return Counted {
+            byte: byte,
+            event: true,
+            keep: section,
+            take: false,
+        };
     }
     // Any other: 0x000E, 16+counter, half-built section dropped, payload taken.
-    leave(16 + counter, EVENT, SECTION_DROPPED, payload)
+    Counted {
+        byte: 16 + counter,
+        event: true,
+        keep: false,
+        take: payload,
+    }
 }
