@@ -19,6 +19,7 @@ PARTS = ("specs", "proofs")
 WORDS = "pub|abbrev|unfoldable|ruleset|data|record|package"
 DECLARED = re.compile(rf"^(\s*)((?:{WORDS})\s+)*([^\s(){{}}.;,\"λ:]+)((?:\s+[({{].*?)?)\s+:(?:\s|$)(.*)")
 NAME = re.compile(r"[^\s(){}.;,@\"«»\[\]|`]+")
+USE = re.compile(r"\buse (\S+)\.\{([^}]*)\}")
 CODE = re.compile(r"\"(?:[^\"\\\n]|\\.)*\"|//[^\n]*")
 
 
@@ -72,6 +73,7 @@ def spelling(root):
             sys.exit(f"two names would both be {new}")
     spelled = Spelling({a: b for a, b in turned.items() if a != b})
     spelled.told = Told(spelled, found)
+    spelled.crates = set(os.listdir(os.path.join(root, "crates")))
     return spelled
 
 
@@ -101,23 +103,34 @@ def is_camel(name):
     return "-" not in name
 
 
+def own(text, turned, crates):
+    """The same without the names that this file takes from a library."""
+    lent = set()
+    for m in USE.finditer(text):
+        if not (m[1].startswith("Rattle.") and m[1].split(".")[1] in crates):
+            lent.update(it.strip().split(" as ")[0] for it in m[2].split(","))
+    return {a: b for a, b in turned.items() if a not in lent}
+
+
 def turn_antt(text, turned):
+    here = own(text, turned, turned.crates)
     lines = []
     for line in text.split("\n"):
         code, mark, said = line.partition("--") if re.search(r"(^|\s)--(\s|$)", line) else (line, "", "")
         if mark:
             said = words(said, turned.told)
-        lines.append(words(code, turned) + mark + said)
+        lines.append(words(code, here) + mark + said)
     return "\n".join(lines)
 
 
 def turn_rt(text, turned):
+    here = own(text, turned, turned.crates)
     out, at = [], 0
     for m in CODE.finditer(text):
-        out.append(words(text[at : m.start()], turned))
+        out.append(words(text[at : m.start()], here))
         out.append(words(m[0], turned.told, is_camel) if m[0].startswith("//") else m[0])
         at = m.end()
-    return "".join(out) + words(text[at:], turned)
+    return "".join(out) + words(text[at:], here)
 
 
 def turn_edit(text, turned):

@@ -5,7 +5,7 @@ use mathlib.Core.List.{List, [], ◌∷◌, ◌++◌, map, append_assoc}
 use Prim.Native.Nat.{ℕ, zero, suc, ◌+◌, ◌<◌, ◌≤◌}
 use native.Mathlib.Nat.{zero-add}
 use native.Mathlib.Omega.{arith}
-use lib.ListN.{length, get_or, take, drop, length_append, length-drop, get_or-append}
+use lib.ListN.{length, get_or, take, drop, length-append, length-drop, get_or-append}
 use lib.Seq.{take_at, drop_at, get_or-append-add, ext_get_or, take-append-le, drop-append-le}
 use borrow.Author.Tests.{le-leb}
 use Rattle.lists.specs.Places.{part}
@@ -96,7 +96,7 @@ module _ (s : State) (z : Typed s) where
   entry_words_length : length entry_words ≡ halves_at
   unfolding entry_words
   entry_words_length =
-      length_append (map (λ (e : Entry). e.number) s.core.entries) (map (λ (e : Entry). e.pid) s.core.entries)
+      length-append (map (λ (e : Entry). e.number) s.core.entries) (map (λ (e : Entry). e.pid) s.core.entries)
       ∙ omega (arith, field_length (λ e. e.number), field_length (λ e. e.pid))
 
   words_cut : core_words s ≡ entry_words ++ (s.core.half ++ marks)

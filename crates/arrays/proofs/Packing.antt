@@ -3,7 +3,7 @@ use mathlib.Core.Path.{◌≡◌, sym, ap, ◌∙◌}
 use mathlib.Core.List.{List, [], ◌∷◌, ◌++◌, map, append-nil}
 use Prim.Native.Nat.{ℕ, ◌+◌}
 use native.Mathlib.Omega.{arith}
-use lib.ListN.{length, set, length_append}
+use lib.ListN.{length, set, length-append}
 use lib.Seq.{sets}
 use Rattle.lists.proofs.Laying.{sets_append}
 use Rattle.watches.specs.declared.Entry.{Entry}
@@ -36,7 +36,7 @@ module _ (s : State) (places : length s.core.entries ≡ most_listed) where
 
   pub times_length : length s.core.since ≡ fixed_count → length (core_times s) ≡ core_time_count
   unfolding core_times column
-  times_length gaps = omega (arith, length_append s.core.since (column (λ e. e.since)), column_length (λ e. e.since), gaps)
+  times_length gaps = omega (arith, length-append s.core.since (column (λ e. e.since)), column_length (λ e. e.since), gaps)
 
   pub words_laid : (l : List ℕ) → length s.core.half ≡ room_count
       → sets (sets (sets (sets l numbers_at (map (λ (e : Entry). e.number) s.core.entries)) pids_at (map (λ (e : Entry). e.pid) s.core.entries)) halves_at s.core.half) lost_at
@@ -65,9 +65,9 @@ module _ (s : State) (places : length s.core.entries ≡ most_listed) where
       let b = column (λ e. e.pid) in
       omega (
         arith,
-        length_append a (b ++ (s.core.half ++ marks)),
-        length_append b (s.core.half ++ marks),
-        length_append s.core.half marks,
+        length-append a (b ++ (s.core.half ++ marks)),
+        length-append b (s.core.half ++ marks),
+        length-append s.core.half marks,
         column_length (λ e. e.number),
         column_length (λ e. e.pid),
         rooms,

@@ -9,7 +9,7 @@ use mathlib.Core.List.{List, [], ◌∷◌, ◌++◌, map}
 use Prim.Native.Nat.{ℕ, ◌+◌, ◌≤◌, ◌<◌}
 use native.Mathlib.Omega.{arith}
 use lib.Dec.{ltb, eqb}
-use lib.ListN.{length, set, length_append, length-drop}
+use lib.ListN.{length, set, length-append, length-drop}
 use Rattle.lists.proofs.Tests.{cond_either}
 use Rattle.events.specs.declared.Event.{Event}
 use Rattle.events.specs.Faults as faults
@@ -74,7 +74,7 @@ module _ (t : ℕ) (p : List ℕ) where
 
   own_append : (i n k : ℕ) (xs ys : List Event) → n + k ≤ i → Own t p n xs → Own t p k ys → Own t p i (xs ++ ys)
   own_append i n k xs ys l a b =
-      record { each = each_append xs ys a.each b.each; few = λ z. omega (arith, length_append xs ys, a.few z, b.few z) }
+      record { each = each_append xs ys a.each b.each; few = λ z. omega (arith, length-append xs ys, a.few z, b.few z) }
 
   -- A FINISHED SECTION gives at most one
   absorbed_own : (r : ℕ) (f : Finished) (h : Held) → Own t p 1 (absorbed (arrival t r (pid_of p)) f h).events

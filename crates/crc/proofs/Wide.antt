@@ -4,7 +4,7 @@ use Prim.Native.Nat.{ℕ, zero, suc, ◌+◌, ◌-◌, ◌*◌, ◌/◌, ◌%◌
 use native.Mathlib.Nat.{add-zero, add_assoc, mul_assoc, mul_comm, mod-le, pow-suc, lt_of_lt_of_le, lt_of_le_of_lt}
 use native.Mathlib.Omega.{arith}
 use lib.Bits.{bit_xor, xor_lt, xor_zero_r, xor_shr, xor_mod, xor_shifted, xor_comm}
-use lib.Pow.{pow_mono, shl_lt, mod_pow_add, mod-mod-pow}
+use lib.Pow.{pow_mono, shl_lt, mod-pow-add, mod-mod-pow}
 use Rattle.crc.specs.Crc.{polynomial, all_ones, adders, crc_step, crc_feed, bits}
 use Rattle.crc.specs.inner.Wide.{folded, folded_in, wide_step, register_of}
 use Rattle.crc.proofs.Register.{xor_assoc, xor_swap, step_zero, step_low, step_add, shifted, shifted_lt, shifted_add, shifted_sum, shifted_step, zeros_shifted, feed_shifted, four_zeros}
@@ -144,7 +144,7 @@ low_up j i u hj hi h = go (u / 2 ^ 63)
         let even : r * 2 % 2 ≡ 0 = omega arith in
         let cut : r % 2 ^ j ≡ u % 2 ^ j = subst (λ (m : ℕ). u % 2 ^ m % 2 ^ j ≡ u % 2 ^ j) all (mod-mod-pow u n j) in
         let e : r * 2 % 2 ^ (j + 1) ≡ u % 2 ^ j * 2 =
-        mod_pow_add (r * 2) j 1 ∙ ap₂ (λ (x y : ℕ). x % 2 ^ j * 2 + y) half even ∙ add-zero (r % 2 ^ j * 2) ∙ ap (λ (x : ℕ). x * 2) cut in
+        mod-pow-add (r * 2) j 1 ∙ ap₂ (λ (x y : ℕ). x % 2 ^ j * 2 + y) half even ∙ add-zero (r % 2 ^ j * 2) ∙ ap (λ (x : ℕ). x * 2) cut in
         subst (λ (x : ℕ). x < 2 ^ (i + 1)) (sym e) (shl_lt i 1 h)
 
     go : (t : ℕ) → folded_in t (u % 2 ^ 63 * 2) % 2 ^ (j + 1) < 2 ^ (i + 1)

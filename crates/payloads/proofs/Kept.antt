@@ -5,7 +5,7 @@ use mathlib.Core.List.{List, [], ◌∷◌, map}
 use Prim.Native.Nat.{ℕ, ◌≤◌, ◌<◌}
 use native.Mathlib.Omega.{arith}
 use lib.Dec.{eqb}
-use lib.ListN.{length, take, length_append, length-take}
+use lib.ListN.{length, take, length-append, length-take}
 use lib.Seq.{length-take-le}
 use Rattle.lists.proofs.Tests.{Order, below, from, order}
 use Rattle.lists.proofs.Laying.{laid_length}
@@ -51,7 +51,7 @@ module _ (t r pid : ℕ) (c : Core) (m : List ℕ) (most : c.count ≤ 16) (kept
       let new = listed_by (new_list t x c) in
       record {
         whole = moved_length old new c.half m ∙ kept.whole;
-        rooms = omega (arith, length_append (take 5 c.half) (map (moved_half old new c.half) every_place), length-take-le 5 c.half kept.rooms);
+        rooms = omega (arith, length-append (take 5 c.half) (map (moved_half old new c.half) every_place), length-take-le 5 c.half kept.rooms);
         halves = halves_small old new c.half kept.rooms (omega (arith, length-take c.count c.entries)) kept.halves;
       }
 

@@ -8,7 +8,7 @@ use native.Mathlib.Nat.{add-zero, le_of_suc-le-suc, not-suc-le-zero}
 use native.Mathlib.Numerals.{add-one}
 use native.Mathlib.Omega.{arith}
 use lib.Dec.{ltb, eqb}
-use lib.ListN.{length, get_or, set, take, drop_of_length-le, length_append, get_or-append}
+use lib.ListN.{length, get_or, set, take, drop_of_length-le, length-append, get_or-append}
 use lib.Seq.{sets, set-get_or, get_or-take, get_or-append-add, length-take-le, sets-eq}
 use borrow.Author.Tests.{lt-ltb, le-ltb, eq-eqb, ne_eqb, ltb-true}
 use Rattle.lists.specs.Places.{part}
@@ -92,7 +92,7 @@ module _ (old new : List Entry) (ns : List ℕ) where
 
   pub halves_length : length ns ≡ 21 → length (moved_halves old new ns) ≡ 21
   halves_length e =
-      length_append (take 5 ns) (moved_first 16) ∙ omega (arith, length-take-le 5 ns (omega arith), from_length (moved_half old new ns) 0 16)
+      length-append (take 5 ns) (moved_first 16) ∙ omega (arith, length-take-le 5 ns (omega arith), from_length (moved_half old new ns) 0 16)
 
   pub halves_begin : sets ns 5 (moved_first 0) ≡ ns
   unfolding places_from

@@ -5,7 +5,7 @@ use mathlib.Core.List.{List}
 use Prim.Native.Nat.{ℕ, zero, ◌+◌, ◌≤◌}
 use native.Mathlib.Omega.{arith}
 use lib.Dec.{eqb}
-use lib.ListN.{length, length_append, length-take}
+use lib.ListN.{length, length-append, length-take}
 use borrow.Author.Tests.{eqb-true, eqb-false}
 use Rattle.events.specs.Capacity.{most_events}
 use Rattle.watches.specs.Tables.{fixed_tables, fixed_count}
@@ -27,7 +27,7 @@ late_of_most p t c =
     omega (
       arith,
       rows_most 1 p t (board_of c) (few_both 1 tables entries (fixed_rows_few c.since) (entries_few (listed c))),
-      length_append tables entries,
+      length-append tables entries,
       tables_within fixed_tables c.since,
       entries_length (listed c),
       length-take c.count c.entries,
@@ -44,7 +44,7 @@ most_events_lem s t p counters m capacity = go (eqb (packet_refusal s t p counte
         rw (packet_call_accepted s t p counters m capacity zero)
         (omega (
           arith,
-          length_append (late_of s.latest t s.core) (stepped s t p counters m).events,
+          length-append (late_of s.latest t s.core) (stepped s t p counters m).events,
           late_of_most s.latest t s.core,
           (sound_parts s m given.sound).count,
           (packet_own t p counters (held_of s m)).few given.packet,

@@ -5,7 +5,7 @@ use mathlib.Core.List.{List, [], ◌∷◌}
 use Prim.Native.Nat.{ℕ, ◌+◌, ◌*◌, ◌≤◌}
 use native.Mathlib.Omega.{arith}
 use lib.Dec.{ltb, eqb}
-use lib.ListN.{length, take, drop, length_append, length-take, length-drop}
+use lib.ListN.{length, take, drop, length-append, length-take, length-drop}
 use Rattle.lists.specs.Places.{part}
 use borrow.Author.Tests.{eq-eqb}
 use Rattle.lists.proofs.Tests.{cond_either, Order, below, from, order}
@@ -47,8 +47,8 @@ weight j = 3 * length j.finished + j.half
 
 weight_ended : (g : Stage) (s : List ℕ) (j : Job) → (is_more g ≡ false → 3 ≤ j.half) → weight (ended g s j) ≤ weight j
 weight_ended More s j h = omega arith
-weight_ended Bad s j h = omega (arith, h refl, length_append j.finished (bad_length ∷ []))
-weight_ended Whole s j h = omega (arith, h refl, length_append j.finished (whole s ∷ []))
+weight_ended Bad s j h = omega (arith, h refl, length-append j.finished (bad_length ∷ []))
+weight_ended Whole s j h = omega (arith, h refl, length-append j.finished (whole s ∷ []))
 
 weight_settled : (r b : ℕ) (j : Job) → weight (settled r (laid_byte r b j)) ≤ weight j + 1
 weight_settled r b j =
@@ -71,8 +71,8 @@ most_one j = cond_either (λ n. length j.finished + n ≤ length j.finished + 1)
 
 most_ended : (g : Stage) (s : List ℕ) (j : Job) → most (ended g s j) ≤ length j.finished + 1
 most_ended More s j = most_one j
-most_ended Bad s j = omega (arith, length_append j.finished (bad_length ∷ []))
-most_ended Whole s j = omega (arith, length_append j.finished (whole s ∷ []))
+most_ended Bad s j = omega (arith, length-append j.finished (bad_length ∷ []))
+most_ended Whole s j = omega (arith, length-append j.finished (whole s ∷ []))
 
 most_byte : (r b : ℕ) (j : Job) → most (fed_by going_on r b j) ≤ most j
 most_byte r b j = go (eqb j.half 0) refl

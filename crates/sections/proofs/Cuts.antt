@@ -6,7 +6,7 @@ use Prim.Native.Nat.{ℕ, zero, suc, ◌+◌, ◌-◌, ◌≤◌, ◌<◌}
 use native.Mathlib.Nat.{add-zero, le_of_suc-le-suc, not-suc-le-zero}
 use native.Mathlib.Omega.{arith}
 use lib.Dec.{ltb}
-use lib.ListN.{length, get_or, take, drop, length_append}
+use lib.ListN.{length, get_or, take, drop, length-append}
 use lib.Seq.{take-suc, take-add, drop-cons, take-length, drop-length, length-take-le}
 use borrow.Author.Tests.{lt-ltb, le-ltb}
 use Rattle.lists.proofs.Tests.{Order, below, from, order}
@@ -96,14 +96,14 @@ module _ (top : ℕ) where
   module _ (h s : List ℕ) where
     more_few : (i : ℕ) → i ≤ length s → length h + i < 3 → is_more (stage_of top (h ++ take i s)) ≡ true
     more_few i l u =
-        let e : length (h ++ take i s) ≡ length h + i = length_append h (take i s) ∙ ap (λ z. length h + z) (length-take-le i s l) in
+        let e : length (h ++ take i s) ≡ length h + i = length-append h (take i s) ∙ ap (λ z. length h + z) (length-take-le i s l) in
         ap is_more (stage_few top (h ++ take i s) (omega arith))
 
     -- the bytes end before it
     pub laid_few : (n : ℕ) → length h + length s < 3 → record { taken = length s; length = n + length s; stage = More } ≡ laid_of top h n s
     laid_few n u =
         let e = taken_all h s (λ i g. more_few (suc i) (omega arith) (omega arith)) in
-        let q : length (h ++ s) < 3 = omega (arith, length_append h s) in
+        let q : length (h ++ s) < 3 = omega (arith, length-append h s) in
         rw (e, take-length s, stage_few top (h ++ s) q)
 
     module _ (k : ℕ) (fits : k ≤ length s) (few : k ≡ 3 - length h) where

@@ -5,7 +5,7 @@ use mathlib.Core.List.{List, ◌++◌}
 use Prim.Native.Nat.{ℕ, ◌+◌, ◌≤◌, ◌<◌}
 use native.Mathlib.Omega.{arith}
 use lib.Dec.{leb, ltb}
-use lib.ListN.{length, drop, length_append, get_or-append, length-take, length-drop}
+use lib.ListN.{length, drop, length-append, get_or-append, length-take, length-drop}
 use borrow.Author.Tests.{lt-ltb, le-ltb, ne_eqb, ltb-true, ltb-false, leb-true}
 use Rattle.lists.specs.Places.{part}
 use Rattle.lists.proofs.Tests.{Order, below, from, order}
@@ -47,7 +47,7 @@ pub stage_grown : (top : ℕ) (h s : List ℕ) → 3 ≤ length h → is_more (s
 unfolding stage_of
 stage_grown top h s g e =
     rw (
-      length_append h s,
+      length-append h s,
       le-ltb (length h + length s) 3 (omega arith),
       get_or-append h s 0 0 (omega arith),
       get_or-append h s 0 1 (omega arith),

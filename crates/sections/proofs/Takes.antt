@@ -4,7 +4,7 @@ use mathlib.Core.Bool.{Bool, true, false, cond, true≢false}
 use mathlib.Core.List.{List, [], ◌∷◌, ◌++◌, append_assoc}
 use Prim.Native.Nat.{ℕ, suc, ◌+◌, ◌≤◌, ◌<◌}
 use native.Mathlib.Omega.{arith}
-use lib.ListN.{length, take, drop, length_append}
+use lib.ListN.{length, take, drop, length-append}
 use lib.Seq.{length-sets, drop-length, length-take-le}
 use Rattle.lists.proofs.Places.{part_length, part_sets}
 use Rattle.sections.specs.declared.Laid.{Laid}
@@ -26,7 +26,7 @@ taken_short top h (b ∷ s) e = go (is_more (stage_of top (h ++ (b ∷ [])))) re
     go : (more : Bool) → is_more (stage_of top (h ++ (b ∷ []))) ≡ more
         → (is_more (stage_of top (h ++ (b ∷ []))) ≡ true → length (h ++ (b ∷ [])) + taken_by top (h ++ (b ∷ [])) s ≤ top + 3)
         → length h + cond more (suc (taken_by top (h ++ (b ∷ [])) s)) 1 ≤ top + 3
-    go true m rest = omega (arith, rest m, length_append h (b ∷ []))
+    go true m rest = omega (arith, rest m, length-append h (b ∷ []))
     go false m rest = omega (arith, more_short top h e)
 
 -- an unfinished one takes all bytes

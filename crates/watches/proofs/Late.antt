@@ -7,7 +7,7 @@ use native.Mathlib.Nat.{le_of_suc-le-suc, not-suc-le-zero, suc-mul}
 use native.Mathlib.Numerals.{add-one}
 use native.Mathlib.Omega.{arith}
 use lib.Dec.{leb, ltb}
-use lib.ListN.{length, get_or, take, length_append, length-take}
+use lib.ListN.{length, get_or, take, length-append, length-take}
 use lib.Seq.{take-suc}
 use Rattle.lateness.specs.Gaps.{keep, due}
 use Rattle.events.specs.declared.Event.{Event}
@@ -83,7 +83,7 @@ rows_most most p t [] f = omega arith
 rows_most most p t (w ∷ ws) f =
     omega (
       arith,
-      length_append (row_late p t w) (rows_late p t ws),
+      length-append (row_late p t w) (rows_late p t ws),
       late_most w.limits w.fault w.id p t w.since,
       rows_most most p t ws f.1,
       f.0,

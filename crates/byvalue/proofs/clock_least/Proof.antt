@@ -3,7 +3,7 @@
 use mathlib.Core.Path.{◌≡◌, refl, sym, ◌∙◌, ap, subst}
 use Prim.Native.Nat.{ℕ, ◌<◌, ◌^◌}
 use mathlib.Core.List.{[], ◌∷◌, List}
-use lib.ListN.{length, length_map}
+use lib.ListN.{length, length-map}
 use lib.Dec.{lit<}
 use seplogic.Ra.Ura.{Ura}
 use seplogic.Ra.TreeShare.{full_share}
@@ -95,7 +95,7 @@ Call 𝓛 mem run = triple_of 𝓛 call.signature (call.spec 𝓛 mem run)
 -- what the result owes, at the machine values of its two fields
 made_of : (r : Answer) (zs : List Event) (v : Val) → Is O r (answer_val r ∷ []) → Is (Array R least_capacity) zs (v ∷ []) → Is N (record { answer = r; list = zs }) (vstruct (vcons (answer_val r) (vcons v vnil)) ∷ [])
 made_of r zs v is are =
-    ((answer_val r ∷ [], (v ∷ [], tt)), (refl, (is, ((are.0, ((are.1.0.0, length_map zs (MEvent.the_field).into ∙ are.1.0.1), as_field zs are.0 are.1.1)), tt))))
+    ((answer_val r ∷ [], (v ∷ [], tt)), (refl, (is, ((are.0, ((are.1.0.0, length-map zs (MEvent.the_field).into ∙ are.1.0.1), as_field zs are.0 are.1.1)), tt))))
 
 module _ {M : Type 1} {𝓤 : Ura M} (𝓛 : Logic 𝓤) (mem : Memory → SProp 𝓤) (run : Routine → Fun 𝓤) (κ₀ : Lft) (q₀ : Share) (state : State) (time : ℕ) (memory : Bor (List ℕ)) (ys : List Event)
     (state-is : Is MState.the_row state ((LL.val MState.the_type MState'.the_laws (state)) ∷ [])) (time-fits : time < 2 ^ 64) (memory-is : Is (ShrRef (named 0) κ₀ (Array u8 memory_size)) memory ((vptr memory.ref_ptr.0 memory.ref_ptr.1) ∷ [])) (ys-are : Is (Array R least_capacity) ys (array_vals event_vals ys)) where
