@@ -1,5 +1,8 @@
 // The state as a host lends it: two arrays, by the width of their numbers, and the way to and from the
 // state by value. What a call reads of them and moves in them is in `moves`.
+
+#![tactic(auto)]
+
 mod moves;
 
 ghost use Rattle.std.specs.Prelude.{◌≡◌, ◌+◌, ◌<◌, ◌≤◌, [], ◌∷◌, map, length};
@@ -21,7 +24,7 @@ use watches::{Entry, FIXED};
 
 // What a host is told of a call: the refusal number (0: accepted) and the number of events.
 #[repr(C)]
-#[derive(Drop)]
+#[derive(Clone, Copy)]
 pub struct Reply {
     pub refusal: u32,
     pub n: usize,

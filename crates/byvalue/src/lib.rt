@@ -1,5 +1,8 @@
 // The product's calls with the event list taken and handed back by value, for programs: a covered function
 // can hold a list of records, but not lend it. A list has the least number of records that is accepted.
+
+#![tactic(auto)]
+
 ghost use Rattle.events.specs.Capacity.{least_capacity};
 ghost use Rattle.calls.specs.Calls.{packet_call, clock_call};
 ghost use Rattle.probe.specs.Done.{PacketDone, ClockDone};
@@ -8,7 +11,7 @@ use calls::{Answer, State};
 use events::{Event, LEAST_CAPACITY};
 use sections::MEMORY;
 
-#[derive(Drop)]
+#[derive(Clone, Copy)]
 pub struct HeldLeast {
     pub answer: Answer,
     pub list: [Event; LEAST_CAPACITY],

@@ -11,7 +11,7 @@ use events::{Event, LEAST_CAPACITY};
 use sections::MEMORY;
 
 // What a log carries from call to call.
-#[derive(Drop)]
+#[derive(Clone, Copy)]
 pub struct Carried {
     pub state: State,
     pub counters: [u8; 8192],

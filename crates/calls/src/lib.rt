@@ -1,5 +1,8 @@
 // The state and the answer of the calls (document 01, "The calls and their numbers"), and in specs/ what
 // every call does. No functions: the crate `engine` has them.
+
+#![tactic(auto)]
+
 use programmes::MOST_LISTED;
 use sections::ROOMS;
 use watches::{Entry, FIXED};
@@ -10,7 +13,7 @@ pub const TABLE_SIZE: usize = 8192;
 pub const GREATEST_PID: u16 = 0x1FFE;
 
 // All of the state but the latest accepted time and the half-built bytes, which are lent.
-#[derive(Drop)]
+#[derive(Clone, Copy)]
 pub struct Core {
     // sync is lost; the run of wrong bytes in sync, of right ones while lost
     pub lost: bool,
@@ -24,7 +27,7 @@ pub struct Core {
     pub half: [u16; ROOMS],
 }
 
-#[derive(Drop)]
+#[derive(Clone, Copy)]
 pub struct State {
     // the latest accepted time
     pub latest: u64,
@@ -32,7 +35,7 @@ pub struct State {
 }
 
 // What a call answers: the refusal number (0: accepted), the number of events, and the state.
-#[derive(Drop)]
+#[derive(Clone, Copy)]
 pub struct Answer {
     pub refusal: u32,
     pub n: usize,

@@ -1,5 +1,8 @@
 // The refusals (document 01, "The calls and their numbers"): each call's ladder, the lowest number first, and
 // the check of the state behind number 5, in the lent arrays.
+
+#![tactic(auto)]
+
 ghost use Rattle.std.specs.Prelude.{◌≡◌, true, cond, ◌&&◌, List, ℕ, ◌-◌, ◌<◌, ◌≤◌, leb, length, take, drop};
 ghost use Rattle.watches.specs.Tables.{fixed_count};
 ghost use Rattle.sections.specs.Rooms.{memory_size, room_count, greatest_length, half_built};

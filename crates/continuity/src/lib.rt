@@ -1,5 +1,8 @@
 // Continuity: step 4 of document 01, "Judging one packet", as a judgement on the table byte. Each sentence of the step stands
 // above what it says, in the paper's order (docs/TRAINING.md).
+
+#![tactic(auto)]
+
 ghost use Rattle.std.specs.Prelude.{◌≡◌, ◌<◌};
 ghost use Rattle.continuity.specs.Continuity.{known_byte, counted_of};
 
@@ -7,7 +10,7 @@ use header::Header;
 
 // What step 4 leaves: the PID's next table byte, whether there is an event (0x000E), whether the half-built section is kept,
 // and whether the payload is taken.
-#[derive(Drop)]
+#[derive(Clone, Copy)]
 pub struct Counted {
     pub byte: u8,
     pub event: bool,

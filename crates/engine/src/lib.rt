@@ -1,5 +1,8 @@
 // The calls over numbers (document 01, "The calls and their numbers"): four numbers to an event. The crate
 // `probe` hands them over as records. In `lent` the state is that of two lent arrays; here it goes by value.
+
+#![tactic(auto)]
+
 mod lent;
 
 ghost use Rattle.std.specs.Prelude.{◌≡◌, length, replicate};

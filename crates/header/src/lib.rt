@@ -1,5 +1,8 @@
 // The header of a transport packet and its adaptation field (document 01, "Judging one packet"; ISO/IEC
 // 13818-1, 2.4.3.2 to 2.4.3.5).
+
+#![tactic(auto)]
+
 ghost use Rattle.std.specs.Prelude.{◌≡◌, ◌+◌, ◌*◌, ◌%◌, ◌<◌, length};
 ghost use Rattle.header.specs.Header.{packet_size, right_length, payload_place, header_of};
 
@@ -9,7 +12,7 @@ pub const PACKET_SIZE: usize = 188;
 pub const SYNC_BYTE: u8 = 0x47;
 
 // What steps 2 to 5 look at.
-#[derive(Drop)]
+#[derive(Clone, Copy)]
 pub struct Header {
     pub error: bool,
     pub start: bool,

@@ -1,5 +1,8 @@
 // A payload handed to section building (document 01, "Building sections" and "The programme list"). Each
 // section acts as soon as it is finished, since the next one is laid over it: `arrivals` has what it does.
+
+#![tactic(auto)]
+
 mod arrivals;
 
 ghost use Rattle.std.specs.Prelude.{◌≡◌, true, ◌+◌, ◌≤◌, ◌<◌, length};
@@ -18,7 +21,7 @@ use sections::{MEMORY, Stage};
 
 // Where the half-built section went on: the next place for an event, the section's length, and whether the rest of
 // the payload is ignored.
-#[derive(Drop)]
+#[derive(Clone, Copy)]
 struct Resumed {
     n: usize,
     half: usize,
@@ -26,7 +29,7 @@ struct Resumed {
 }
 
 // Where new sections were built: the next place for an event, and the length of the one that is still half-built.
-#[derive(Drop)]
+#[derive(Clone, Copy)]
 struct Built {
     n: usize,
     half: usize,

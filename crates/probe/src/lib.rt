@@ -1,6 +1,9 @@
 // The product's calls (document 01, "The calls and their numbers"): opening, a packet call and a clock call
 // over a lent list of event records. The engine lays its events as numbers; `records::hand_over` writes the
 // list.
+
+#![tactic(auto)]
+
 ghost use Rattle.std.specs.Prelude.{◌≡◌, length};
 ghost use Rattle.calls.specs.Calls.{open_answer, open_table, packet_call, clock_call};
 ghost use Rattle.probe.specs.Done.{PacketDone, ClockDone};

@@ -1,5 +1,8 @@
 // The programme list in a good PAT section, and where its half-built sections stand (document 01, "The
 // programme list").
+
+#![tactic(auto)]
+
 ghost use Rattle.std.specs.Prelude.{◌≡◌, true, ◌||◌, not, [], ℕ, ◌+◌, ◌*◌, ◌<◌, ◌≤◌, leb, length, take};
 ghost use Rattle.std.proofs.lemmas.List.Edits.{sets};
 ghost use Rattle.lists.specs.Places.{part};
@@ -16,7 +19,7 @@ use watches::{Entry, FIXED};
 
 // The list of a good PAT section: how many programmes are listed, whether the list is bad, and sixteen
 // entries by value, of which the first `count` are listed.
-#[derive(Drop)]
+#[derive(Clone, Copy)]
 pub struct Listed {
     pub count: usize,
     pub bad: bool,
@@ -104,7 +107,7 @@ fn is_usable(e: &[u8], k: usize, number: u16, pid: u16, count: usize) -> bool
 
 // What an entry of a PAT adds to the list: whether it makes it bad, and whether it is listed, and then as which
 // entry.
-#[derive(Drop)]
+#[derive(Clone, Copy)]
 struct Addition {
     bad: bool,
     listed: bool,

@@ -1,6 +1,9 @@
 // A packet call of which nothing is to be said, seen at a glance: most packets of a stream are elementary data of which
 // the engine only counts, and then the call is two stores. What is not seen at a glance is left to the call itself. The
 // same of a state by value is in `value`.
+
+#![tactic(auto)]
+
 mod value;
 
 ghost use Rattle.std.specs.Prelude.{◌≡◌, ◌≤◌, false, not, ◌&&◌, ◌||◌, [], ◌∷◌, eqb, leb, length, take};
@@ -23,7 +26,7 @@ use watches::{
 };
 
 // Whether a call is quiet, and then the byte of its PID in the counter table after steps 3 and 4.
-#[derive(Drop)]
+#[derive(Clone, Copy)]
 pub struct Glance {
     pub quiet: bool,
     pub byte: u8,

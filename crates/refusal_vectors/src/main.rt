@@ -1,5 +1,8 @@
 // The product's refusals, and what they answer, in lines. The file stdout beside src/ has what they should be,
 // worked out from document 01 by another implementation of it (host/vectors).
+
+#![tactic(auto)]
+
 mod forged;
 mod half_built;
 mod refusals;

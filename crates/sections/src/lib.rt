@@ -1,5 +1,8 @@
 // Sections: built from payloads in rooms of lent memory, and judged when they are finished (document 01,
 // "Building sections").
+
+#![tactic(auto)]
+
 ghost use Rattle.std.specs.Prelude.{◌≡◌, true, cond, ◌+◌, ◌-◌, ◌<◌, ◌≤◌, ltb, length, take};
 ghost use Rattle.std.proofs.lemmas.List.Edits.{sets};
 ghost use Rattle.lists.specs.Places.{part};
@@ -13,7 +16,7 @@ use events::{BAD, CRC_ERROR, NO_CAUSE, PAT_ERROR, PMT_ERROR, WRONG_TABLE};
 use watches::FIXED;
 
 // How far the bytes of a section are: more are to come, section_length is out of bounds, or it is whole.
-#[derive(Drop)]
+#[derive(Clone, Copy)]
 pub enum Stage {
     More,
     Bad,
@@ -22,7 +25,7 @@ pub enum Stage {
 
 // What a section step says: unfinished; good, with its table_id_extension; a fault with its cause and its
 // id; or a finished section that says nothing.
-#[derive(Drop)]
+#[derive(Clone, Copy)]
 pub enum Outcome {
     Unfinished,
     Good { extension: u16 },
@@ -31,7 +34,7 @@ pub enum Outcome {
 }
 
 // What laying bytes did: how many were taken, the section's length with them, and how far it is.
-#[derive(Drop)]
+#[derive(Clone, Copy)]
 pub struct Laid {
     pub taken: usize,
     pub length: usize,

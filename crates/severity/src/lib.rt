@@ -1,12 +1,15 @@
 // Severity classes of A/78 for the gap between two sections of a table (document 01, "Severity by
 // A/78"; A/78A, clauses 5 and 6).
+
+#![tactic(auto)]
+
 ghost use Rattle.std.specs.Prelude.{◌≡◌, ◌<◌};
 ghost use Rattle.severity.specs.Severity.{row_for, set_for, worst_of, answer_for, severity_of};
 
 // The answer: the refusal number (0: none), the classes as a set (TOA 16, POA 8, CM 4, QOS 2,
 // TNC 1), how many they are, and the worst one.
 #[repr(C)]
-#[derive(Drop)]
+#[derive(Clone, Copy)]
 pub struct Verdict {
     pub refusal: u32,
     pub set: u32,
@@ -16,7 +19,7 @@ pub struct Verdict {
 
 // A row of the paper's table, in ticks of 27 MHz: TNC above, QOS with TNC above, absence above, and
 // the set at absence.
-#[derive(Drop)]
+#[derive(Clone, Copy)]
 struct Row {
     tnc: u64,
     qos: u64,

@@ -1,5 +1,8 @@
 // What a host links: the calls of the card with C's calling convention, on numbers and slices. The state is
 // lent as two arrays (crate `arrays`).
+
+#![tactic(auto)]
+
 mod descriptors;
 mod fields;
 mod lent;
@@ -16,7 +19,7 @@ pub use lent::{songpigeon_clock, songpigeon_open, songpigeon_packet};
 
 // What a host is told of a writing: the number of the refusal, or 0 and the length.
 #[repr(C)]
-#[derive(Drop)]
+#[derive(Clone, Copy)]
 pub struct WriteReply {
     pub refusal: u8,
     pub length: usize,
@@ -26,7 +29,7 @@ pub struct WriteReply {
 // (0 nothing more, 1 a descriptor of fixed size, 2 another one), its tag, the place and length of the body of
 // another one, and the next place.
 #[repr(C)]
-#[derive(Drop)]
+#[derive(Clone, Copy)]
 pub struct Found {
     pub refusal: u8,
     pub kind: u8,

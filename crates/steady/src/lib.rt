@@ -1,13 +1,16 @@
 // Reads and writes that go on: after a signal at once, and where a descriptor has nothing to give or no room to
 // take (EAGAIN) after a pause, so that waiting costs little time of the processor. What is read and written no
 // contract can say.
+
+#![tactic(auto)]
+
 ghost use Rattle.std.specs.Prelude.{◌≡◌, true, ◌≤◌, length};
 ghost use Rattle.io.specs.Counts.{IsPrefixLen};
 
 use libc::types::timespec;
 
 // What a read came to: so many bytes, 0 at the input's end. Where it failed there are none, and errno says why.
-#[derive(Drop)]
+#[derive(Clone, Copy)]
 pub struct Got {
     pub failed: bool,
     pub n: usize,

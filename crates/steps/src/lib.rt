@@ -1,5 +1,8 @@
 // One packet judged: steps 1 to 5 of document 01, "Judging one packet", in the lent arrays. Events have the call's time
 // as stamp and the packet's 13 PID bits as id. Step 1 is in `sync`.
+
+#![tactic(auto)]
+
 mod sync;
 
 ghost use Rattle.std.specs.Prelude.{◌≡◌, true, cond, List, [], ◌∷◌, ℕ, ◌+◌, ◌<◌, ◌≤◌, length, set};
@@ -27,7 +30,7 @@ use sections::{MEMORY, ROOMS};
 use watches::{FIXED, PAT_PID};
 
 // What step 1 says: the next place for an event, and whether the packet is judged further.
-#[derive(Drop)]
+#[derive(Clone, Copy)]
 struct Caught {
     n: usize,
     further: bool,

@@ -1,5 +1,8 @@
 // Test data sections of DVB A046, Annex B, written, read back and written again; the refusals at their
 // boundaries. The file stdout beside src/ has what they should be, worked out from the tables.
+
+#![tactic(auto)]
+
 mod read_cases;
 mod show;
 mod write_cases;

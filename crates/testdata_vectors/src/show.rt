@@ -96,7 +96,7 @@ fn fixed_of(d: Fixed) {
     text(b"\n");
 }
 
-#[derive(Drop)]
+#[derive(Clone, Copy)]
 enum After {
     Next(Cursor),
     Stop,

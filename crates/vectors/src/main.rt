@@ -1,4 +1,7 @@
 // Published vectors, run and written line by line; the file stdout beside src/ has what they should be.
+
+#![tactic(auto)]
+
 use libc::STDOUT_FILENO;
 
 // A name and the CRC register after the bytes s.

@@ -1,4 +1,7 @@
 // Watches: the watched tables and the listed programmes (document 01, "Watches and lateness").
+
+#![tactic(auto)]
+
 ghost use Rattle.std.specs.Prelude.{◌≡◌, ◌&&◌, [], ◌∷◌, ℕ, ◌+◌, ◌<◌, ◌≤◌, leb, ltb, length, get_or};
 ghost use Rattle.events.specs.Capacity.{least_capacity, number_capacity};
 ghost use Rattle.events.specs.Events.{events_laid};
@@ -8,7 +11,7 @@ ghost use Rattle.watches.specs.Late.{late_events, row_late, rows_late, table_row
 use events::{EIT_ERROR, LATE, NIT_ERROR, PAT_ERROR, PMT_ERROR, SDT_ERROR, TDT_ERROR};
 
 // A listed programme: its number, its PMT PID, and the start of its present gap.
-#[derive(Drop)]
+#[derive(Clone, Copy)]
 pub struct Entry {
     pub number: u16,
     pub pid: u16,
@@ -16,7 +19,7 @@ pub struct Entry {
 }
 
 // A watched table: its PID, its table_id, the limits of its watch in ticks, the lowest first, and the fault of its events.
-#[derive(Drop)]
+#[derive(Clone, Copy)]
 pub struct Table {
     pub pid: u16,
     pub id: u8,
