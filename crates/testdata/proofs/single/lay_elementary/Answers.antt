@@ -1,0 +1,10 @@
+-- `testdata::single::lay_elementary` meets its contract. Assumes nothing.
+use native.Mathlib.Omega.{arith}
+use lib.ListN.{length-set}
+use Rattle.testdata.proofs.single.lay_elementary.Goals as goal
+
+pub bounds-place-1 : goal.bounds-place-1
+bounds-place-1 c = simp length-set (omega arith)
+
+pub bounds-place-2 : goal.bounds-place-2
+bounds-place-2 c = simp length-set (omega arith)
