@@ -1,6 +1,5 @@
 -- `programmes::entry_for` meets its contract. Assumes nothing.
 use mathlib.Core.Path.{refl, sym, ◌∙◌}
-use Prim.Native.Nat.{◌-◌}
 use native.Mathlib.Omega.{arith}
 use Rattle.programmes.proofs.Searches.{entry_here, entry_on, entry_none}
 use Rattle.programmes.proofs.entry_for.Goals as goal
@@ -12,15 +11,15 @@ pub returns-then-is_pair : goal.returns-then-is_pair
 returns-then-is_pair c =
     let loop = c.loop-i in
     let args = c.args in
-    sym (loop.invariant.1 ∙ entry_here args.t2 args.count loop.i (omega arith) _ _ _ c.loop-i-test.true (sym c.is_pair.ensures ∙ c.if-is_pair.true))
+    sym (loop.invariant.1 ∙ entry_here args.old args.count loop.i (omega arith) _ _ _ c.loop-i-test.true (sym c.is_pair.ensures ∙ c.if-is_pair.true))
 
 pub loop-i-preserved : goal.loop-i-preserved
 loop-i-preserved c =
     let loop = c.loop-i in
     let args = c.args in
-    (omega arith, loop.invariant.1 ∙ entry_on args.t2 args.count loop.i (omega arith) _ _ _ c.loop-i-test.true (sym c.is_pair.ensures ∙ c.if-is_pair.false))
+    (omega arith, loop.invariant.1 ∙ entry_on args.old args.count loop.i (omega arith) _ _ _ c.loop-i-test.true (sym c.is_pair.ensures ∙ c.if-is_pair.false))
 
 pub returns : goal.returns
 returns c =
     let args = c.args in
-    sym (c.loop-i.invariant.1 ∙ entry_none args.t2 args.count c.loop-i.i (omega arith) _ _ _ c.loop-i-test.false)
+    sym (c.loop-i.invariant.1 ∙ entry_none args.old args.count c.loop-i.i (omega arith) _ _ _ c.loop-i-test.false)

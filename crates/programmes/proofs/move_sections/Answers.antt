@@ -14,10 +14,10 @@ returns-then-stays c =
     let args = c.args in
     let pre = c.requires in
     let moved-halves = c.moved_halves-next in
-    let old = take args.old-count args.old in
-    let new = take args.new-count args.new in
-    let lo = length-take-le args.old-count args.old (omega arith) in
-    let ln = length-take-le args.new-count args.new (omega arith) in
+    let old = take args.old_count args.old in
+    let new = take args.new_count args.new in
+    let lo = length-take-le args.old_count args.old (omega arith) in
+    let ln = length-take-le args.new_count args.new (omega arith) in
     let q = placed old new args.half (omega arith) (omega (arith, lo, pre.mem_len.1)) pre.by_index in
     let s = rw moved-halves.ensures at (c.stays.ensures c.if-stays.true) in
     let next = moved_halves old new args.half in
@@ -28,13 +28,13 @@ pub move_places-requires : goal.move_places-requires
 move_places-requires c =
     let args = c.args in
     let pre = c.requires in
-    let old = take args.old-count args.old in
-    let new = take args.new-count args.new in
-    let lo = length-take-le args.old-count args.old (omega arith) in
-    rw c.moved_halves-next.ensures (pre.mem_len, placed old new args.half (omega arith) (omega (arith, lo, pre.mem_len.1)) pre.by_index)
+    let old = take args.old_count args.old in
+    let new = take args.new_count args.new in
+    let lo = length-take-le args.old_count args.old (omega arith) in
+    rw c.moved_halves-next.ensures (record { mem_len = pre.mem_len; placed = placed old new args.half (omega arith) (omega (arith, lo, pre.mem_len.1)) pre.by_index })
 
 pub returns : goal.returns
 returns c =
     let args = c.args in
     let moved-halves = c.moved_halves-next in
-    (moved-halves.ensures, rw moved-halves.ensures at c.move_places.ensures ∙ sym (bytes_at_lem (take args.old-count args.old) (take args.new-count args.new) args.half args.mem.now (omega arith)))
+    (moved-halves.ensures, rw moved-halves.ensures at c.move_places.ensures ∙ sym (bytes_at_lem (take args.old_count args.old) (take args.new_count args.new) args.half args.mem.now (omega arith)))

@@ -6,12 +6,12 @@ use Rattle.programmes.proofs.moved_half.Goals as goal
 
 pub returns-then-new_count-k : goal.returns-then-new_count-k
 returns-then-new_count-k c =
-    sym (half_past c.args.old c.args.t3 c.args.old-count c.args.new-count c.args.t5 c.args.k (omega arith) (omega arith) c.if-new_count-k.true)
+    sym (half_past c.args.old c.args.new c.args.old_count c.args.new_count c.args.half c.args.k (omega arith) (omega arith) c.if-new_count-k.true)
 
 pub returns-then-place_of-k : goal.returns-then-place_of-k
 returns-then-place_of-k c =
     let args = c.args in
-    sym (half_later args.old args.t3 args.old-count args.new-count args.t5 args.k (omega arith) (omega arith) c.if-new_count-k.false (λ e. c.if-place_of-k.true (c.place_of.ensures ∙ e)))
+    sym (half_later args.old args.new args.old_count args.new_count args.half args.k (omega arith) (omega arith) c.if-new_count-k.false (λ e. c.if-place_of-k.true (c.place_of.ensures ∙ e)))
 
 pub returns-then-old_count-place : goal.returns-then-old_count-place
 returns-then-old_count-place c =
@@ -19,7 +19,7 @@ returns-then-old_count-place c =
     let if1 = c.if-new_count-k in
     let first = sym c.place_of.ensures ∙ c.if-place_of-k.false in
     let place = rw c.place_of-place.ensures at c.if-old_count-place.true in
-    sym (half_unlisted args.old args.t3 args.old-count args.new-count args.t5 args.k (omega arith) (omega arith) if1.false first place)
+    sym (half_unlisted args.old args.new args.old_count args.new_count args.half args.k (omega arith) (omega arith) if1.false first place)
 
 pub returns : goal.returns
 returns c =
@@ -27,4 +27,4 @@ returns c =
     let if1 = c.if-new_count-k in
     let first = sym c.place_of.ensures ∙ c.if-place_of-k.false in
     let place = rw c.place_of-place.ensures at c.if-old_count-place.false in
-    rw c.place_of-place.ensures (sym (half_kept args.old args.t3 args.old-count args.new-count args.t5 args.k (omega arith) (omega arith) if1.false first place))
+    rw c.place_of-place.ensures (sym (half_kept args.old args.new args.old_count args.new_count args.half args.k (omega arith) (omega arith) if1.false first place))

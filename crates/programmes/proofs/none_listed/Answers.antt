@@ -1,6 +1,5 @@
 -- `programmes::none_listed` meets its contract. Assumes nothing.
 use mathlib.Core.Path.{refl, sym, ◌∙◌}
-use Prim.Native.Nat.{◌-◌}
 use native.Mathlib.Omega.{arith}
 use Rattle.programmes.proofs.Empty.{none_turn, none_end}
 use Rattle.programmes.proofs.none_listed.Goals as goal

@@ -1,13 +1,14 @@
 -- `programmes::read_entries` meets its contract. Assumes nothing.
 use mathlib.Core.Path.{◌≡◌, refl, sym, ◌∙◌}
-use mathlib.Core.Logic.{⊎_elim}
 use mathlib.Core.Bool.{true, false}
-use Prim.Native.Nat.{◌-◌, ◌*◌, ◌/◌}
+use Prim.Native.Nat.{◌-◌, ◌*◌, ◌/◌, ◌≤◌}
 use native.Mathlib.Omega.{arith}
 use lib.ListN.{length, drop, length-drop}
 use borrow.Author.Tests.{eq-eqb, ne_eqb}
+use Rattle.programmes.specs.inner.Reading.{with_addition}
 use Rattle.programmes.proofs.Reading.{added_turn, read_turn, read_begins, read_ends}
 use Rattle.programmes.proofs.read_entries.Goals as goal
+use Rattle.programmes.proofs.read_entries.Goals.{then-r, else-r}
 
 pub loop-k-init : goal.loop-k-init
 loop-k-init c = (omega arith, refl, omega arith, read_begins _ _ _ _)
@@ -24,7 +25,7 @@ loop-k-preserved c =
     let args = c.args in
     let read_one = c.read_one-r in
     let turn = added_turn read_one.result loop.l c.if-r.l loop.invariant.2 read_one.ensures.1 in
-    let next = ⊎_elim (λ w. turn true w.0.taken w.2) (λ w. turn false w.0.left w.1) c.if-r.branch in (
+    let next : (c.if-r.l ≡ with_addition read_one.result loop.l) × (c.if-r.l.count ≤ 16) = elim c.if-r.branch [ then-r w ↦ turn true w.if-r.true w.l-is | else-r w ↦ turn false w.if-r.false w.l-is ] in (
       omega arith,
       loop.invariant.1,
       next.1,

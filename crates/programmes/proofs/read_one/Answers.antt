@@ -13,10 +13,10 @@ returns-then-number-eq0 c =
 
 pub returns-then-not-is_usable : goal.returns-then-not-is_usable
 returns-then-not-is_usable c =
-    let number_at = c.number_at-number in
+    let number-at = c.number_at-number in
     let pid-in = c.pid_in-pid in
-    let some = rw number_at.ensures at (ne_eqb _ _ c.if-number-eq0.false) in
-    let says = rw (number_at.ensures, pid-in.ensures) at c.is_usable.ensures in
+    let some = rw number-at.ensures at (ne_eqb _ _ c.if-number-eq0.false) in
+    let says = rw (number-at.ensures, pid-in.ensures) at c.is_usable.ensures in
     let args = c.args in
     let e = args.e.now in
     let k = args.k in
@@ -24,14 +24,14 @@ returns-then-not-is_usable c =
 
 pub returns : goal.returns
 returns c =
-    let number_at = c.number_at-number in
+    let number-at = c.number_at-number in
     let pid-in = c.pid_in-pid in
-    let some = rw number_at.ensures at (ne_eqb _ _ c.if-number-eq0.false) in
-    let says = rw (number_at.ensures, pid-in.ensures) at c.is_usable.ensures in
+    let some = rw number-at.ensures at (ne_eqb _ _ c.if-number-eq0.false) in
+    let says = rw (number-at.ensures, pid-in.ensures) at c.is_usable.ensures in
     let usable = c.if-not-is_usable.false in
     let args = c.args in
     let e = args.e.now in
     let k = args.k in (
-      rw (c.entry_for.ensures, number_at.ensures, pid-in.ensures) (entered_listed _ _ (seen_to e k) (number_at e k) (pid_in e k) _ _ says some usable),
+      rw (c.entry_for.ensures, number-at.ensures, pid-in.ensures) (entered_listed _ _ (seen_to e k) (number_at e k) (pid_in e k) _ _ says some usable),
       λ z. listed_room (seen_to e k) (number_at e k) (pid_in e k) _ _ says usable,
     )

@@ -1,7 +1,6 @@
 -- `programmes::stays` meets its contract. Assumes nothing.
 use mathlib.Core.Path.{sym}
 use mathlib.Core.Bool.{true≢false}
-use Prim.Native.Nat.{◌-◌}
 use native.Mathlib.Omega.{arith}
 use Rattle.programmes.proofs.Moves.{stayed_turn}
 use Rattle.programmes.proofs.stays.Goals as goal
@@ -16,7 +15,7 @@ pub loop-k-preserved : goal.loop-k-preserved
 loop-k-preserved c =
     let args = c.args in
     let loop = c.loop-k in
-    (omega arith, stayed_turn _ args.t3 args.new-count args.t5 loop.k c.loop-k-test.true loop.invariant.1 (c.stays_at.ensures (c.if-not-stays_at.false)))
+    (omega arith, stayed_turn _ args.new args.new_count args.half loop.k c.loop-k-test.true loop.invariant.1 (c.stays_at.ensures (c.if-not-stays_at.false)))
 
 pub returns : goal.returns
 returns c = λ e k h. c.loop-k.invariant.1 k (omega (arith, h))
