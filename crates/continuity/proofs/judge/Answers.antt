@@ -17,22 +17,19 @@ returns-then-control_10 c = rw (c.if-h-unseen.false, c.if-control_10-counter.fal
 
 pub returns-then-counter-last : goal.returns-then-counter-last
 unfolding counted_of
-returns-then-counter-last c = rw (c.if-h-unseen.false, c.if-control_10-counter.false, c.if-control_10.false, eq-eqb _ _ c.if-counter-last.true)
+returns-then-counter-last c = rw (c.if-h-unseen.false, c.if-control_10-counter.false, ne_eqb _ _ c.if-control_10.false, eq-eqb _ _ c.if-counter-last.true)
 
 pub returns-then-counter-last-2 : goal.returns-then-counter-last-2
 unfolding counted_of
 returns-then-counter-last-2 c =
-    let else3 = c in
-    rw (else3.if-h-unseen.false, else3.if-control_10-counter.false, else3.if-control_10.false, ne_eqb _ _ c.if-counter-last.false, c.if-counter-last-2.true)
+    rw (c.if-h-unseen.false, c.if-control_10-counter.false, ne_eqb _ _ c.if-control_10.false, ne_eqb _ _ c.if-counter-last.false, c.if-counter-last-2.true)
 
 pub returns-then-counter-last-3 : goal.returns-then-counter-last-3
 unfolding counted_of
 returns-then-counter-last-3 c =
-    let else3 = c in
-    rw (else3.if-h-unseen.false, else3.if-control_10-counter.false, else3.if-control_10.false, ne_eqb _ _ c.if-counter-last.false, c.if-counter-last-2.false, eq-eqb _ _ c.if-counter-last-3.true)
+    rw (c.if-h-unseen.false, c.if-control_10-counter.false, ne_eqb _ _ c.if-control_10.false, ne_eqb _ _ c.if-counter-last.false, c.if-counter-last-2.false, eq-eqb _ _ c.if-counter-last-3.true)
 
 pub returns : goal.returns
 unfolding counted_of
 returns c =
-    let else3 = c in
-    rw (else3.if-h-unseen.false, else3.if-control_10-counter.false, else3.if-control_10.false, ne_eqb _ _ c.if-counter-last.false, c.if-counter-last-2.false, ne_eqb _ _ c.if-counter-last-3.false)
+    rw (c.if-h-unseen.false, c.if-control_10-counter.false, ne_eqb _ _ c.if-control_10.false, ne_eqb _ _ c.if-counter-last.false, c.if-counter-last-2.false, ne_eqb _ _ c.if-counter-last-3.false)
