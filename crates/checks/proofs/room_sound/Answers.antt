@@ -1,0 +1,34 @@
+-- `checks::room_sound` meets its contract. Assumes nothing.
+use mathlib.Core.Path.{ap, ◌∙◌}
+use mathlib.Core.List.{[]}
+use native.Mathlib.Omega.{arith}
+use Rattle.lists.specs.Places.{part}
+use Rattle.lists.proofs.Places.{part_lent}
+use Rattle.sections.specs.Section.{is_more}
+use Rattle.sections.specs.Rooms.{greatest_length}
+use Rattle.sections.proofs.Stages.{stage_few, room_fits}
+use Rattle.checks.proofs.Turns.{part_cut}
+use Rattle.checks.proofs.room_sound.Goals as goal
+
+pub returns-then-half-eq0 : goal.returns-then-half-eq0
+unfolding part
+returns-then-half-eq0 c =
+    let args = c.args in
+    rw (c.if-half-eq0.true, stage_few (greatest_length args.room) [] (omega arith))
+
+pub overflow_sub-memory : goal.overflow_sub-memory
+overflow_sub-memory c = omega (arith, c.room_base-base.ensures, room_fits c.args.room c.requires.1)
+
+pub slice_bounds-stage_of-end : goal.slice_bounds-stage_of-end
+slice_bounds-stage_of-end c =
+    omega (arith, c.least-n.ensures.1, c.room_base-base.ensures, room_fits c.args.room c.requires.1)
+
+pub returns : goal.returns
+returns c =
+    let args = c.args in
+    let least = c.least-n in
+    let base = c.room_base-base in
+    let m = args.memory.now in
+    let cut = part_lent m base.result least.result ∙ part_cut m base.result args.half least.result least.ensures.0 least.ensures.2 in
+    let stage = rw (cut, base.ensures, c.greatest_length-top.ensures) at c.stage_of-stage.ensures in
+    c.is_more.ensures ∙ ap is_more stage
