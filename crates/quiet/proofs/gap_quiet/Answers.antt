@@ -1,5 +1,4 @@
 -- `quiet::gap_quiet` meets its contract. Assumes nothing.
-use borrow.Author.Rules.{rules}
 use mathlib.Core.Path.{◌≡◌, refl}
 use mathlib.Core.Bool.{Bool, true, false, not, ◌&&◌}
 use mathlib.Core.List.{[]}
@@ -8,25 +7,18 @@ use lib.Dec.{leb, ltb}
 use borrow.Author.Tests.{lt-leb, le-leb}
 use Rattle.lateness.specs.Gaps.{keep}
 use Rattle.quiet.specs.inner.Quiet.{none}
-use Rattle.quiet.proofs.gap_quiet.Statement.{statement}
-use Rattle.quiet.proofs.gap_quiet.Tie as tie
+use Rattle.quiet.proofs.gap_quiet.Goals as goal
 
 -- a stamp that is kept is the only one
 none_kept : (b : Bool) (stamp : ℕ) → not b ≡ none (keep b stamp [])
 none_kept true stamp = refl
 none_kept false stamp = refl
 
-returns : tie.Need-returns
-returns c = rw (lt-leb _ _ c.if1.true)
+pub returns-then-since-gt-LATEST_TIME : goal.returns-then-since-gt-LATEST_TIME
+returns-then-since-gt-LATEST_TIME c = rw (lt-leb _ _ c.if-since-gt-LATEST_TIME.true)
 
-add-stamp : tie.Need-overflow-add-stamp
-add-stamp c = search rules
-
-returns-2 : tie.Need-returns-2
-returns-2 c =
-    let args = c.before.args in
+pub returns : goal.returns
+returns c =
+    let args = c.args in
     let stamp = args.since + args.limit in
-    rw (le-leb _ _ c.if1.false) (none_kept (leb args.p stamp && ltb stamp args.t) stamp)
-
-pub gap-quiet-spec : {M : Type 1} → statement M
-gap-quiet-spec = tie.close (tie.spec returns add-stamp returns-2)
+    rw (le-leb _ _ c.if-since-gt-LATEST_TIME.false) (none_kept (leb args.p stamp && ltb stamp args.t) stamp)

@@ -1,0 +1,65 @@
+-- `steps::judge_packet` meets its contract. Assumes nothing.
+use native.Mathlib.Omega.{arith}
+use mathlib.Core.Path.{ap, ◌∙◌}
+use lib.ListN.{length}
+use borrow.Author.Tests.{not-true, not-false}
+use Rattle.lists.proofs.Laying.{laid_length}
+use Rattle.header.specs.Header.{right_sync}
+use Rattle.calls.specs.declared.Core.{Core}
+use Rattle.calls.specs.Sound.{rooms_sound}
+use Rattle.arrays.specs.Lent.{core_in}
+use Rattle.steps.proofs.Rooms.{synced_count, synced_sound}
+use Rattle.steps.proofs.Doing.{fields, further_done, stopped_done}
+use Rattle.arrays.proofs.Kept.{latest_same, told_then}
+use Rattle.steps.proofs.judge_packet.Goals as goal
+
+pub returns-then-not-y : goal.returns-then-not-y
+returns-then-not-y c =
+    let start = c in
+    let args = start.args in
+    let packet = args.packet.now in
+    let times = args.times.now in
+    let core = core_in times args.words.now in
+    let f = fields args.h packet start.requires.read_off.0.header in
+    let sync = c.judge_sync-y in
+    let caught = rw f.pid at (sync.ensures.0 times) in
+    record { done = stopped_done args.time packet args.counters.now core args.memory.now _ sync.result.further args.numbers.now args.n _ sync.result.n caught (not-true _ c.if-not-y.true); latest_kept = (latest_same start.requires.sized.0.long, sync.ensures.1) }
+
+pub judge_header-requires : goal.judge_header-requires
+judge_header-requires c =
+    let start = c in
+    let args = start.args in
+    let packet = args.packet.now in
+    let times = args.times.now in
+    let core = core_in times args.words.now in
+    let f = fields args.h packet start.requires.read_off.0.header in
+    let sync = c.judge_sync-y in
+    let caught = rw f.pid at (sync.ensures.0 times) in
+    let ready = start.requires.sized.1.ready in
+    let right = right_sync packet in record {
+      sized = (
+        record { long = start.requires.sized.0.long; wide = sync.ensures.1.wide },
+        record {
+          packet = ready.packet;
+          whole = ready.whole;
+          listed = omega (arith, ap (λ (k : Core). k.count) caught.core ∙ synced_count right core, ready.listed);
+          sound = ap (λ (k : Core). rooms_sound k.half args.memory.now) caught.core ∙ synced_sound right core args.memory.now ready.sound;
+          places = omega (arith, ready.places, caught.few);
+          numbers = omega (arith, ready.numbers, ap length caught.laid ∙ laid_length _ _ _ _ _);
+        },
+      );
+      read_off = (start.requires.read_off.0, start.requires.read_off.1);
+    }
+
+pub returns : goal.returns
+returns c =
+    let start = c in
+    let args = start.args in
+    let packet = args.packet.now in
+    let times = args.times.now in
+    let core = core_in times args.words.now in
+    let f = fields args.h packet start.requires.read_off.0.header in
+    let sync = c.judge_sync-y in
+    let caught = rw f.pid at (sync.ensures.0 times) in
+    let header = c.judge_header.ensures in
+    record { done = further_done args.time packet args.counters.now core args.memory.now _ sync.result.further args.numbers.now args.n _ sync.result.n caught _ _ _ _ _ (not-false _ c.if-not-y.false) header.done; latest_kept = (header.moved.times, told_then sync.ensures.1 header.moved.words) }
