@@ -1,5 +1,4 @@
 -- `engine::lent/judge_late` meets its contract. Assumes nothing.
-use borrow.Author.Rules.{rules}
 use native.Mathlib.Omega.{arith}
 use mathlib.Core.Path.{refl, sym, ap, ◌∙◌}
 use lib.ListN.{length, get_or}
@@ -14,37 +13,27 @@ use Rattle.calls.specs.Cores.{late_of}
 use Rattle.arrays.specs.Lent.{gaps_in, count_in, entries_in, core_in, latest_at, gaps_at}
 use Rattle.arrays.specs.inner.Kept.{listed_in}
 use Rattle.engine.proofs.Fits.{late_of_fits}
-use Rattle.engine.proofs.lent.judge_late.Statement.{statement}
-use Rattle.engine.proofs.lent.judge_late.Tie as tie
+use Rattle.engine.proofs.lent.judge_late.Goals as goal
 
-shared-slice-read-latest : tie.Need-shared-slice-read-latest
-shared-slice-read-latest c = search rules
-
-gaps-of-requires : tie.Need-gaps-of-requires
-gaps-of-requires c κs = search rules
-
-late-tables-requires : tie.Need-late-tables-requires
-late-tables-requires c κs =
-    let start = c.before.before.before.before.before.before in
-    let gaps = c.gaps-of.ensures in
+pub late_tables-next-requires : goal.late_tables-next-requires
+late_tables-next-requires c =
+    let start = c in
+    let gaps = c.gaps_of.ensures in
     (omega arith, start.requires.1, ap length gaps ∙ part_length start.args.times.now gaps_at fixed_count (omega (arith, start.requires.0.long)), rw gaps start.requires.3)
 
-late-entries-requires : tie.Need-late-entries-requires
-late-entries-requires c κs =
-    let start = c.before.before.before.before.before.before.before.before.before.before in
-    let tables = rw c.before.before.before.before.gaps-of.ensures at c.before.before.before.late-tables.ensures in
+pub late_entries-requires : goal.late_entries-requires
+late_entries-requires c =
+    let start = c in
+    let tables = rw c.gaps_of.ensures at c.late_tables-next.ensures in
     let times = start.args.times.now in
     (start.requires.0, omega (arith, tables.0, tables_whole (get_or times latest_at 0) start.args.time (gaps_in times)), omega (arith, start.requires.1, ap length tables.1 ∙ laid_length _ _ _ _ _), start.requires.2, start.requires.4)
 
-same_length : tie.Need-same-length
-same_length c = search rules
-
-returns : tie.Need-returns
+pub returns : goal.returns
 unfolding late_of
 returns c =
-    let start = c.before.before.before.before.before.before.before.before.before.before.before.before.before in
-    let tables = rw c.before.before.before.before.before.before.before.gaps-of.ensures at c.before.before.before.before.before.before.late-tables.ensures in
-    let entries = c.before.before.late-entries.ensures in
+    let start = c in
+    let tables = rw c.gaps_of.ensures at c.late_tables-next.ensures in
+    let entries = c.late_entries.ensures in
     let times = start.args.times.now in
     let words = start.args.words.now in
     let p = get_or times latest_at 0 in
@@ -57,14 +46,3 @@ returns c =
       rw (sym (rows_append p t (table_rows fixed_tables (gaps_in times)) (entry_rows (listed_in times words))))
           (late_of_fits p t (core_in times words) start.requires.3 start.requires.4 entries.2),
     )
-
-pub judge-late-spec : {M : Type 1} → statement M
-judge-late-spec =
-    tie.close
-    (tie.spec
-    shared-slice-read-latest
-    gaps-of-requires
-    late-tables-requires
-    late-entries-requires
-    same_length
-    returns)
