@@ -1,4 +1,3 @@
 pub mod Over
-pub mod Scratch
 pub mod ReadBack
 pub mod Rooms
