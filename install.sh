@@ -27,7 +27,7 @@ to=$prefix
 cd "$(dirname "$0")"
 
 bash host/tools.sh gcc
-rt check tsevents
+bash host/program.sh
 bash host/library.sh
 
 made=$(mktemp -d)

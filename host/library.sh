@@ -6,9 +6,10 @@ cd "$(dirname "$0")/.."
 library=target/staticlib/libsongpigeon.a
 kit=target/staticlib/kit
 if [ -f "$library" ] && [ "$(cat "$kit" 2> /dev/null)" = "$(rt version)" ] &&
-    [ -z "$(find crates crates.txt -newer "$library" -print -quit)" ]; then
+    [ -z "$(find crates.txt crates/*/{src,specs,proofs} -newer "$library" -print -quit 2> /dev/null)" ]; then
     exit 0
 fi
 rm -f "$library" "$kit"
-rt staticlib songpigeon
+(cd crates/songpigeon_c && rt lib)
+install -D -m 644 crates/songpigeon_c/out/libsongpigeon_c.a "$library"
 rt version > "$kit"

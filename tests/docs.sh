@@ -2,7 +2,7 @@
 # The documents keep up with the code: each public function has its row in docs/PROMISES.md, each crate its row in
 # docs/ARCHITECTURE.md; each row of the table of rules names its file and what is defined there; every name in docs/DECISIONS.md and
 # docs/PROMISES.md is that of something; docs/TRAINING.md has the lines that it quotes where it says; and each file of definitions has
-# a glossary with every public name and no other, none of two meanings.
+# a glossary with every public name and no other, none of two meanings. What C links promises word for word what crate songpigeon does.
 set -uo pipefail
 cd "$(dirname "$0")/.." || exit 1
 passed=0
@@ -19,7 +19,7 @@ want() { # FILE TEXT
     grep -qF -- "\`$2\`" "$1"
     check $? "$1 does not name \`$2\`"
 }
-for crate in $(sed -n 's/^\([a-z0-9_]*\):.*/\1/p' crates.txt); do
+for crate in $(sed -n 's/^\([a-z0-9_]*\)[ :].*/\1/p' crates.txt); do
     want docs/ARCHITECTURE.md "$crate"
     [ -f crates/"$crate"/src/lib.rt ] || continue # a program has no callers
     for name in $(sed -n 's/^ *pub \(extern "C" \)\{0,1\}fn \([a-z0-9_]*\).*/\2/p' crates/"$crate"/src/*.rt); do
@@ -67,8 +67,8 @@ check $? "docs/ARCHITECTURE.md: its table of rules was not read"
 words=$(mktemp)
 trap 'rm -f "$words"' EXIT
 {
-    find crates tests host planted \( -type f -o -type d \) -printf '%f\n' | sed 's/\.[a-z]*$//'
-    find crates host tests -name '*.antt' -o -name '*.rt' -o -name '*.rs' -o -name '*.[ch]' -o -name '*.sh' -o -name stdout |
+    find crates tests host planted -name out -prune -o \( -type f -o -type d \) -printf '%f\n' | sed 's/\.[a-z]*$//'
+    find crates host tests -name out -prune -o \( -name '*.antt' -o -name '*.rt' -o -name '*.rs' -o -name '*.[ch]' -o -name '*.sh' -o -name stdout \) -print |
         xargs grep -ohE "[A-Za-z0-9_.'-]+"
 } | sort -u > "$words"
 named=$({
@@ -81,6 +81,19 @@ for name in $named; do
 done
 [ "$(wc -w <<< "$named")" -gt 300 ]
 check $? "docs/DECISIONS.md and docs/PROMISES.md: what they name was not read"
+
+# an export for C has the parameters and the clauses of the function of crate songpigeon that has its name
+heads() { # FILE..: each public function up to its body, on one line
+    sed 's/^pub extern "C" fn /pub fn /' "$@" | awk '
+        /^pub fn songpigeon_/ { head = "" ; inside = 1 }
+        inside && /^{$/ { print head; inside = 0 }
+        inside { gsub(/^ +/, ""); head = head " " $0 }' | sed 's/( /(/g; s/, )/)/g' | sort
+}
+exports=$(heads crates/songpigeon_c/src/lib.rt)
+differ=$(diff <(heads crates/songpigeon/src/*.rt) <(echo "$exports"))
+check $? "crates songpigeon and songpigeon_c promise different things: $differ"
+[ "$(wc -l <<< "$exports")" -eq "$(grep -c '^#\[unsafe(no_mangle)\]$' crates/songpigeon_c/src/lib.rt)" ]
+check $? "crates/songpigeon_c/src/lib.rt: its exports were not read"
 
 # what a reader must believe cites nothing that passes between functions only
 for file in crates/*/specs/*.antt; do
@@ -104,7 +117,7 @@ failed=$((failed + faults))
 check $? "docs/TRAINING.md: its tables were not read"
 
 # glossaries
-glossary=$(find crates -path '*/specs/*.antt' ! -name Lib.antt ! -name inner.antt | sort | xargs awk -f tests/glossary.awk)
+glossary=$(find crates -path '*/specs/*.antt' ! -path '*/out/*' ! -name Lib.antt ! -name inner.antt | sort | xargs awk -f tests/glossary.awk)
 read -r names faults <<< "$(tail -n 1 <<< "$glossary")"
 head -n -1 <<< "$glossary"
 passed=$((passed + names - faults))

@@ -7,6 +7,7 @@ cd "$(dirname "$0")/.." || exit 1
 passed=0
 failed=0
 bash host/tools.sh gcc
+bash host/program.sh
 work=$(mktemp -d)
 trap 'rm -rf "$work"' EXIT
 

@@ -21,6 +21,8 @@ note() { # STATUS WHAT
 bash host/tools.sh
 bash host/library.sh
 note $? "host/library.sh"
+bash host/program.sh
+note $? "host/program.sh"
 
 host() { # SUBCOMMAND ARGUMENTS: cargo in host/, without a network
     (cd host && cargo "$1" --quiet --offline --release --target-dir ../target/host "${@:2}")

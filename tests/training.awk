@@ -86,7 +86,7 @@ function statement(    n, i, j, k, bytes, byte, after, event, section, payload, 
     }
     ask(trimmed(cell[2]) == counters, "other counters than " counters ": " cell[2])
     ask(trimmed(cell[3]) == told, "other bytes than those of " cell[3] ": " told)
-    return "fromUnseen (" left "[]) ≡ " right "[]"
+    return "from_unseen (" left "[]) ≡ " right "[]"
 }
 /^> / { step = step (step == "" ? "" : " ") substr($0, 3) }
 /^\|/ {

@@ -34,6 +34,7 @@ run() { # PROGRAM
     done
 }
 
+bash host/program.sh
 run target/bin/tsevents
 
 bash host/tools.sh cargo rustc

@@ -66,8 +66,7 @@ fn values_of(d: Fixed) -> [u32; 5]
 
 // What stands at a place among descriptors that end at another. A descriptor of fixed size writes its numbers;
 // else the lent ones stay. Refusals 13 and 14.
-#[unsafe(no_mangle)]
-pub extern "C" fn songpigeon_testdata_descriptor(
+pub fn songpigeon_testdata_descriptor(
     bytes: &[u8],
     at: usize,
     end: usize,
@@ -117,12 +116,7 @@ pub extern "C" fn songpigeon_testdata_descriptor(
 }
 
 // Writes an elementary_id_descriptor (Table 5): its length. Refusals 13, then 15, and then nothing is written.
-#[unsafe(no_mangle)]
-pub extern "C" fn songpigeon_testdata_elementary_id(
-    id_type: u8,
-    pid: u16,
-    place: &mut [u8],
-) -> WriteReply
+pub fn songpigeon_testdata_elementary_id(id_type: u8, pid: u16, place: &mut [u8]) -> WriteReply
     ensures { (result ≡ write_reply (fixed_told (Fixed.ElementaryId id_type pid) (length place.old)))
         × (place.new ≡ fixed_memory (Fixed.ElementaryId id_type pid) place.old) }
 {
@@ -131,8 +125,7 @@ pub extern "C" fn songpigeon_testdata_elementary_id(
 }
 
 // Writes a GPS_descriptor (Table 14), likewise.
-#[unsafe(no_mangle)]
-pub extern "C" fn songpigeon_testdata_gps(
+pub fn songpigeon_testdata_gps(
     north_south: u8,
     latitude: u32,
     east_west: u8,
@@ -157,8 +150,7 @@ pub extern "C" fn songpigeon_testdata_gps(
 }
 
 // Writes a reduced_PCR_descriptor (Table 15), likewise.
-#[unsafe(no_mangle)]
-pub extern "C" fn songpigeon_testdata_reduced_pcr(base: u32, place: &mut [u8]) -> WriteReply
+pub fn songpigeon_testdata_reduced_pcr(base: u32, place: &mut [u8]) -> WriteReply
     ensures { (result ≡ write_reply (fixed_told (Fixed.ReducedPcr base) (length place.old)))
         × (place.new ≡ fixed_memory (Fixed.ReducedPcr base) place.old) }
 {
@@ -167,8 +159,7 @@ pub extern "C" fn songpigeon_testdata_reduced_pcr(base: u32, place: &mut [u8]) -
 }
 
 // Writes a program_descriptor (Table 16), likewise.
-#[unsafe(no_mangle)]
-pub extern "C" fn songpigeon_testdata_program(
+pub fn songpigeon_testdata_program(
     number: u16,
     reserved: u8,
     pid: u16,
@@ -190,8 +181,7 @@ pub extern "C" fn songpigeon_testdata_program(
 
 // Writes a descriptor of any tag with its body as it is: its length. Refusals 14, 13, 15 in this order, and then
 // nothing is written.
-#[unsafe(no_mangle)]
-pub extern "C" fn songpigeon_testdata_other(tag: u8, body: &[u8], place: &mut [u8]) -> WriteReply
+pub fn songpigeon_testdata_other(tag: u8, body: &[u8], place: &mut [u8]) -> WriteReply
     ensures { (result ≡ write_reply (other_told tag body.now (length place.old)))
         × (place.new ≡ other_memory tag body.now place.old) }
 {

@@ -15,8 +15,7 @@ const TOO_WIDE: u8 = 13;
 const BAD_SIZE: u8 = 14;
 
 // Severity classes of a gap, by A/78.
-#[unsafe(no_mangle)]
-pub extern "C" fn songpigeon_severity(kind: usize, gap: u64) -> Verdict
+pub fn songpigeon_severity(kind: usize, gap: u64) -> Verdict
     ensures { result ≡ severity_of kind gap }
 {
     severity::severity(kind, gap)
@@ -83,12 +82,7 @@ fn place_numbers(d: Part, t: Part) -> [u64; 4]
 
 // Reads a test data section: its fields, a byte each, and the places of its descriptors and its data; 0, or
 // the number of the refusal, and then nothing is written.
-#[unsafe(no_mangle)]
-pub extern "C" fn songpigeon_testdata_read(
-    section: &[u8],
-    fields: &mut [u8; 12],
-    places: &mut [u64; 4],
-) -> u8
+pub fn songpigeon_testdata_read(section: &[u8], fields: &mut [u8; 12], places: &mut [u64; 4]) -> u8
     ensures { (result ≡ (read_told section.now).number)
         × (fields.new ≡ fields_after (read_told section.now) fields.old)
         × (places.new ≡ places_after (read_told section.now) places.old) }
@@ -124,8 +118,7 @@ pub fn write_reply(written: Written) -> WriteReply
 // Writes a test data section of the fields, a byte each, the bytes of its descriptors and its data: its
 // length, or the number of the refusal, 14, 13, 15 in this order, and then nothing is written. An indicator
 // above 1 is a number too wide for its field: 13.
-#[unsafe(no_mangle)]
-pub extern "C" fn songpigeon_testdata_write(
+pub fn songpigeon_testdata_write(
     fields: &[u8; 12],
     descriptors: &[u8],
     data: &[u8],

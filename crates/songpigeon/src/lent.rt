@@ -28,8 +28,7 @@ fn lay_answer(a: Answer, times: &mut [u64; TIMES], words: &mut [u16; WORDS])
 
 // Opening: the arrays hold the state of an opening at `time`, and the counter table is 0 throughout. Refusals 2
 // and 4.
-#[unsafe(no_mangle)]
-pub extern "C" fn songpigeon_open(
+pub fn songpigeon_open(
     times: &mut [u64; TIMES],
     words: &mut [u16; WORDS],
     time: u64,
@@ -46,8 +45,7 @@ pub extern "C" fn songpigeon_open(
 }
 
 // A packet call: the late events, then those of steps 1 to 5. Refusals 1 to 6.
-#[unsafe(no_mangle)]
-pub extern "C" fn songpigeon_packet(
+pub fn songpigeon_packet(
     times: &mut [u64; TIMES],
     words: &mut [u16; WORDS],
     time: u64,
@@ -70,8 +68,7 @@ pub extern "C" fn songpigeon_packet(
 }
 
 // A clock call: the late events. Refusals 3 to 6.
-#[unsafe(no_mangle)]
-pub extern "C" fn songpigeon_clock(
+pub fn songpigeon_clock(
     times: &mut [u64; TIMES],
     words: &mut [u16; WORDS],
     time: u64,

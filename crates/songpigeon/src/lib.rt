@@ -1,5 +1,5 @@
-// What a host links: the calls of the card with C's calling convention, on numbers and slices. The state is
-// lent as two arrays (crate `arrays`).
+// The calls of the card as a host makes them, on numbers and slices. The state is lent as two arrays (crate
+// `arrays`). Crate `songpigeon_c` exports them to C.
 
 #![tactic(auto)]
 
@@ -40,8 +40,7 @@ pub struct Found {
 }
 
 // The version of this library, as the header has it.
-#[unsafe(no_mangle)]
-pub extern "C" fn songpigeon_version() -> u32
+pub fn songpigeon_version() -> u32
     ensures { result ≡ version }
 {
     20000
