@@ -1,4 +1,2 @@
 pub mod Joining
-pub mod Again
-pub mod Handed
 pub mod Examples
