@@ -9,7 +9,7 @@ use native.Mathlib.Omega.{arith}
 use lib.Dec.{ltb, eqb}
 use lib.ListN.{length, take}
 use borrow.Author.Tests.{lt-ltb, ltb-true}
-use Rattle.lists.proofs.Tests.{and_left, and_right, and_intro, order}
+use Rattle.lists.proofs.Tests.{and_left, and_right, and_intro}
 use Rattle.lateness.specs.Logs.{Call, clock, packet, or_clock}
 use Rattle.events.specs.Capacity.{least_capacity}
 use Rattle.watches.specs.declared.Entry.{Entry}

@@ -6,7 +6,6 @@ use mathlib.Core.Bool.{true, false}
 use mathlib.Core.List.{List}
 use Prim.Native.Nat.{ℕ, ◌<◌}
 use native.Mathlib.Omega.{arith}
-use Rattle.lists.proofs.Tests.{from}
 use Rattle.watches.specs.Tables.{table_of, pat_pid}
 use Rattle.header.specs.Header.{right_sync, pid_of}
 use Rattle.sections.specs.Rooms.{pat_room}

@@ -1,7 +1,6 @@
 -- `checks::times_sound` meets its contract. Assumes nothing.
 use native.Mathlib.Omega.{arith}
 use mathlib.Core.Path.{refl, sym, ◌∙◌}
-use Prim.Native.Nat.{◌-◌}
 use Rattle.checks.proofs.Turns.{times_here, times_on, times_none}
 use Rattle.checks.proofs.times_sound.Goals as goal
 

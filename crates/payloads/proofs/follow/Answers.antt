@@ -2,18 +2,12 @@
 -- the events laid so far; each finished section has taken three bytes or more. Assumes nothing.
 use borrow.Author.Rules.{rules}
 use native.Mathlib.Omega.{arith}
-use mathlib.Core.Path.{◌≡◌, refl, sym, ◌∙◌}
-use mathlib.Core.List.{List}
-use Prim.Native.Nat.{ℕ, ◌+◌, ◌-◌, ◌*◌, ◌≤◌}
-use lib.ListN.{length, drop, length-drop}
+use mathlib.Core.Path.{refl, sym, ◌∙◌}
+use lib.ListN.{length-drop}
 use Rattle.lists.proofs.Turns.{rest_all}
-use Rattle.sections.specs.Building.{begun_job}
 use Rattle.sections.proofs.Jobs.{empty_more}
-use Rattle.calls.specs.Steps.{Absorbed}
 use Rattle.arrays.specs.Lent.{core_in}
-use Rattle.arrays.specs.inner.Kept.{Moved}
-use Rattle.payloads.specs.inner.Parts.{Fit}
-use Rattle.payloads.proofs.Sections.{NewSection, Reached, reached_begins, stuffing_ends, bytes_end, section_fit, section_inside, section_three, section_leaves, section_waits, section_follows, section_stops}
+use Rattle.payloads.proofs.Sections.{NewSection, reached_begins, stuffing_ends, bytes_end, section_fit, section_inside, section_three, section_leaves, section_waits, section_follows, section_stops}
 use Rattle.arrays.proofs.Kept.{moved_none, moved_sized, moved_then}
 use Rattle.payloads.proofs.follow.Goals as goal
 

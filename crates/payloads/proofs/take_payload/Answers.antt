@@ -4,7 +4,6 @@ use native.Mathlib.Omega.{arith}
 use mathlib.Core.Path.{refl, sym, ap, ◌∙◌}
 use Prim.Native.Nat.{◌+◌, ◌-◌}
 use lib.ListN.{length, take, drop, length-take, length-drop}
-use borrow.Author.Tests.{not-true, not-false}
 use Rattle.lists.proofs.Places.{part_length}
 use Rattle.lists.proofs.Turns.{rest_all}
 use Rattle.sections.specs.Building.{dropped, begun_job}

@@ -3,7 +3,6 @@ use mathlib.Core.Path.{◌≡◌, sym, ap, subst, ◌∙◌}
 use mathlib.Core.List.{List}
 use Prim.Native.Nat.{ℕ, ◌*◌, ◌≤◌}
 use lib.ListN.{length}
-use Rattle.events.specs.declared.Event.{Event}
 use Rattle.events.specs.Capacity.{record_width, number_capacity}
 use Rattle.events.specs.Events.{events_laid}
 use Rattle.calls.specs.declared.Answer.{Answer}

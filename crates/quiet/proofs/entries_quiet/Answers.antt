@@ -1,7 +1,7 @@
 -- `quiet::entries_quiet` meets its contract. Assumes nothing.
 use native.Mathlib.Omega.{arith}
 use mathlib.Core.Path.{◌≡◌, refl, sym, ◌∙◌}
-use Prim.Native.Nat.{◌-◌, ◌≤◌}
+use Prim.Native.Nat.{◌≤◌}
 use lib.ListN.{length, get_or, length-set}
 use Rattle.watches.specs.Tables.{no_entry}
 use Rattle.arrays.specs.Lent.{entries_in}

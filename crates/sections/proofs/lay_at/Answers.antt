@@ -7,7 +7,6 @@ use native.Mathlib.Nat.{add_assoc}
 use native.Mathlib.Omega.{arith}
 use lib.ListN.{length, take, drop, length-drop}
 use lib.Seq.{sets, length-take-le, length-sets, take-length}
-use borrow.Author.Tests.{not-false}
 use Rattle.lists.specs.Places.{part}
 use Rattle.lists.proofs.Places.{part_length, part_lent, part_sets}
 use Rattle.lists.proofs.Laying.{sets_on}

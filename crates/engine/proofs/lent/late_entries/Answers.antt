@@ -1,7 +1,6 @@
 -- `engine::lent/late_entries` meets its contract. Assumes nothing.
 use native.Mathlib.Omega.{arith}
 use mathlib.Core.Path.{◌≡◌, refl, sym, ap, ◌∙◌}
-use Prim.Native.Nat.{◌-◌}
 use borrow.Author.Count.{below_more}
 use lib.ListN.{length, get_or}
 use Rattle.lists.proofs.Laying.{laid_none, laid_length, laid_turn}

@@ -5,8 +5,6 @@ use mathlib.Core.Bool.{Bool, true, false, cond}
 use mathlib.Core.List.{List, [], ◌∷◌}
 use Prim.Native.Nat.{ℕ, ◌≤◌}
 use lib.ListN.{length}
-use denote.Enum.Declared.{tag_of}
-use types.Run.{OneOf, miss}
 use Rattle.events.specs.declared.Event.{Event}
 use Rattle.events.specs.Faults.{pat_error, bad}
 use Rattle.events.specs.Events.{event_at}
@@ -14,7 +12,6 @@ use Rattle.sections.specs.declared.Outcome.{Outcome}
 use Rattle.sections.specs.declared.Outcome.TheVariants.{Unfinished, Good, Fault, Silent}
 use Rattle.sections.specs.Rooms.{half_built}
 use Rattle.sections.specs.Outcomes.{events_of}
-use Rattle.sections.specs.contracts.Outcome.{the_type}
 use Rattle.calls.specs.Cores.{Held}
 use Rattle.calls.specs.Steps.{arrival, absorbed_by}
 use Rattle.payloads.specs.inner.Taking.{held}

@@ -1,6 +1,5 @@
 -- `quiet::value/entries_quiet` meets its contract. Assumes nothing.
 use mathlib.Core.Path.{refl, sym, ◌∙◌}
-use Prim.Native.Nat.{◌-◌}
 use native.Mathlib.Omega.{arith}
 use lib.ListN.{get_or, length-set}
 use Rattle.watches.specs.Tables.{no_entry}

@@ -1,6 +1,5 @@
 -- `testdata::descriptors::row_of` meets its contract. Assumes nothing.
 use mathlib.Core.Path.{refl, ap, ◌∙◌}
-use Prim.Native.Nat.{◌-◌}
 use native.Mathlib.Omega.{arith}
 use Rattle.testdata.specs.Descriptors.{right_size}
 use Rattle.testdata.proofs.Rows.{pass_end, pass_spare, pass_cut, pass_turn}
