@@ -7,7 +7,6 @@ cd "$(dirname "$0")/.." || exit 1
 passed=0
 failed=0
 bash host/tools.sh gcc
-bash host/program.sh
 work=$(mktemp -d)
 trap 'rm -rf "$work"' EXIT
 
@@ -95,12 +94,11 @@ row "a disk that is full behind the second line" 2 "$head" \
     'FAULTY_WRITES=+n LD_PRELOAD=$tools/faults.so "$tsevents" < <(head -n 2 "$log"; sleep 0.3; tail -n 1 "$log")'
 row "a write that takes nothing, for no reason" 2 "$head" "tsevents: writing failed behind line 0\n" \
     'FAULTY_WRITES=+0 LD_PRELOAD=$tools/faults.so "$tsevents" < "$log"'
-row "a disk that says so only when it is closed" 2 "$head$event" "tsevents: writing failed at the end: Input/output error\n" \
-    'FAULTY_CLOSE=e LD_PRELOAD=$tools/faults.so "$tsevents" < "$log"'
-row "a signal that breaks the closing" 0 "$head$event" "" 'FAULTY_CLOSE=i LD_PRELOAD=$tools/faults.so "$tsevents" < "$log"'
-row "an output that nobody reads" 2 "" "tsevents: ended by a signal: Broken pipe\n" '
-    # the proved program is ended by the signal itself, and so is not silent either
-    { sleep 0.3; env --default-signal=PIPE "$tsevents" "$log" || { s=$?; [ $s -ne 141 ] || { echo "tsevents: ended by a signal: Broken pipe" >&2; s=0; }; exit $s; }; } | :
+row "a disk that says so only at the end" 2 "$head$event" "tsevents: writing failed at the end: Input/output error\n" \
+    'FAULTY_SYNC=e LD_PRELOAD=$tools/faults.so "$tsevents" < "$log"'
+row "a signal that breaks the end" 0 "$head$event" "" 'FAULTY_SYNC=i LD_PRELOAD=$tools/faults.so "$tsevents" < "$log"'
+row "an output that nobody reads" 2 "" "tsevents: writing failed behind line 0: Broken pipe\n" '
+    { sleep 0.3; env --default-signal=PIPE "$tsevents" "$log"; } | :
     exit ${PIPESTATUS[0]}'
 row "an output that nobody reads, and the signal is ignored" 2 "" "tsevents: writing failed behind line 0: Broken pipe\n" '
     { sleep 0.3; env --ignore-signal=PIPE "$tsevents" "$log"; } | :

@@ -3,7 +3,7 @@
  *
  *   FAULTY_READS, FAULTY_WRITES  a letter for each call: a EAGAIN, i EINTR, e EIO, n ENOSPC, 0 the answer 0, 1 at most one byte
  *                                moved, + as it is. Behind the last letter every call is as it is
- *   FAULTY_CLOSE                 a letter for the closing of standard output
+ *   FAULTY_SYNC                  the same for each time that a file is brought to its disk
  *   COUNTED_WAITS                the file that is told, at the end, how many waits there were and how many asked for no time
  */
 #define _GNU_SOURCE
@@ -66,11 +66,11 @@ ssize_t write(int file, const void *bytes, size_t length) {
     return answered(letter, &answer) ? answer : real(file, bytes, letter == '1' && length > 1 ? 1 : length);
 }
 
-int close(int file) {
-    int (*real)(int) = (int (*)(int))dlsym(RTLD_NEXT, "close");
-    const char *letter = getenv("FAULTY_CLOSE");
+int fsync(int file) {
+    static size_t place;
+    int (*real)(int) = (int (*)(int))dlsym(RTLD_NEXT, "fsync");
     ssize_t answer;
-    return file == STDOUT_FILENO && letter != NULL && answered(*letter, &answer) ? (int)answer : real(file);
+    return answered(next("FAULTY_SYNC", &place), &answer) ? (int)answer : real(file);
 }
 
 int nanosleep(const struct timespec *asked, struct timespec *left) {

@@ -5,6 +5,7 @@ ghost use Rattle.sections.specs.Rooms.{memory_size};
 ghost use Rattle.call_lines.specs.inner.Marks.{marked};
 ghost use Rattle.calls.specs.Calls.{packet_call, clock_call};
 
+use crate::show::Lines;
 use crate::{packets, show};
 use calls::State;
 use events::{Event, LEAST_CAPACITY};
@@ -37,7 +38,14 @@ pub fn marks() -> [Event; LEAST_CAPACITY]
 }
 
 // A packet call; the half-built length is that of a room.
-pub fn given(name: &[u8], log: Carried, time: u64, p: &[u8], room: usize) -> Carried
+pub fn given(
+    lines: &mut Lines,
+    name: &str,
+    log: Carried,
+    time: u64,
+    p: &[u8],
+    room: usize,
+) -> Carried
     ensures { (result.state ≡ (packet_call log.state time p.now log.counters log.memory least_capacity).state)
         × (result.counters ≡ (packet_call log.state time p.now log.counters log.memory least_capacity).counters)
         × (result.memory ≡ (packet_call log.state time p.now log.counters log.memory least_capacity).memory) }
@@ -48,13 +56,13 @@ pub fn given(name: &[u8], log: Carried, time: u64, p: &[u8], room: usize) -> Car
     let h = byvalue::packet_least(before, time, p, &mut counters, &mut memory, marks());
     let a = h.answer;
     let list = h.list;
-    show::text(name);
-    show::answer(a);
-    show::half(a.state, room);
-    show::table(&counters);
-    show::memory(&memory);
-    show::text(b"\n");
-    show::events(list, a.n);
+    show::text(lines, name);
+    show::answer(lines, a);
+    show::half(lines, a.state, room);
+    show::table(lines, &counters);
+    show::memory(lines, &memory);
+    show::text(lines, "\n");
+    show::events(lines, list, a.n);
     let after = a.state;
     Carried {
         state: after,
@@ -64,13 +72,20 @@ pub fn given(name: &[u8], log: Carried, time: u64, p: &[u8], room: usize) -> Car
 }
 
 // The same of a packet of 188 bytes that begins with the given ones.
-pub fn packet(name: &[u8], log: Carried, time: u64, bytes: &[u8], room: usize) -> Carried {
+pub fn packet(
+    lines: &mut Lines,
+    name: &str,
+    log: Carried,
+    time: u64,
+    bytes: &[u8],
+    room: usize,
+) -> Carried {
     let p = packets::filled(bytes);
-    given(name, log, time, &p, room)
+    given(lines, name, log, time, &p, room)
 }
 
 // A clock call.
-pub fn clock(name: &[u8], log: Carried, time: u64) -> Carried
+pub fn clock(lines: &mut Lines, name: &str, log: Carried, time: u64) -> Carried
     ensures { (result.state ≡ (clock_call log.state time log.memory least_capacity).state)
         × (result.counters ≡ log.counters)
         × (result.memory ≡ log.memory) }
@@ -80,10 +95,10 @@ pub fn clock(name: &[u8], log: Carried, time: u64) -> Carried
     let h = byvalue::clock_least(before, time, &memory, marks());
     let a = h.answer;
     let list = h.list;
-    show::text(name);
-    show::answer(a);
-    show::text(b"\n");
-    show::events(list, a.n);
+    show::text(lines, name);
+    show::answer(lines, a);
+    show::text(lines, "\n");
+    show::events(lines, list, a.n);
     let after = a.state;
     let mut r = log;
     r.state = after;
@@ -126,10 +141,10 @@ pub fn silent_clock(log: Carried, time: u64) -> Carried
 }
 
 // An opening.
-pub fn open(name: &[u8], time: u64, counters: &mut [u8]) {
+pub fn open(lines: &mut Lines, name: &str, time: u64, counters: &mut [u8]) {
     let a = probe::open(time, counters);
-    show::text(name);
-    show::answer(a);
-    show::table(counters);
-    show::text(b"\n");
+    show::text(lines, name);
+    show::answer(lines, a);
+    show::table(lines, counters);
+    show::text(lines, "\n");
 }

@@ -4,22 +4,52 @@ ghost use Rattle.call_lines.specs.inner.Marks.{marked, is_marked};
 
 use calls::{Answer, State};
 use events::{Event, LEAST_CAPACITY};
-use libc::STDOUT_FILENO;
 use sections::MEMORY;
+use std::fmt::Display;
+use std::io;
+use std::io::{Error, Print, Stdout};
 
-pub fn text(s: &[u8]) {
-    io::write_all(STDOUT_FILENO, s);
+// Where lines go. Behind a write that failed nothing more is written; `end` says why, and cannot be left out.
+pub struct Lines {
+    out: Stdout,
+    failed: Option<Error>,
+}
+
+impl Lines {
+    pub fn new(out: Stdout) -> Lines {
+        Lines { out, failed: None }
+    }
+
+    fn put<D: Display + Drop>(&mut self, value: D) {
+        if self.failed.is_some() {
+            return;
+        }
+        if let Err(why) = self.out.print(value) {
+            self.failed = Some(why);
+        }
+    }
+
+    // Whether all of it was written.
+    pub fn end(self) -> io::Result<()> {
+        let Lines { out: _, failed } = self;
+        match failed {
+            Some(why) => Err(why),
+            None => Ok(()),
+        }
+    }
+}
+
+pub fn text(lines: &mut Lines, s: &str) {
+    lines.put(s);
 }
 
 // A space and a number.
-pub fn number(n: u64) {
-    text(b" ");
-    io::print_decimal(STDOUT_FILENO, n);
+pub fn number(lines: &mut Lines, n: u64) {
+    lines.put(format_args!(" {n}"));
 }
 
-pub(crate) fn hex(n: u64, digits: usize) {
-    text(b" ");
-    io::print_hex(STDOUT_FILENO, n, digits);
+pub(crate) fn hex(lines: &mut Lines, n: u64, digits: usize) {
+    lines.put(format_args!(" {n:0digits$x}"));
 }
 
 // What the records hold before a call.
@@ -50,22 +80,22 @@ fn is_mark(e: Event) -> bool
 }
 
 // Stamp and cause decimal, fault and id four hex digits.
-fn event(e: Event) {
-    text(b" ");
-    number(e.stamp);
-    hex(e.fault as u64, 4);
-    number(e.cause as u64);
-    hex(e.id as u64, 4);
-    text(b"\n");
+fn event(lines: &mut Lines, e: Event) {
+    text(lines, " ");
+    number(lines, e.stamp);
+    hex(lines, e.fault as u64, 4);
+    number(lines, e.cause as u64);
+    hex(lines, e.id as u64, 4);
+    text(lines, "\n");
 }
 
 // The first n records, and whether the others are untouched.
-pub fn events(list: [Event; LEAST_CAPACITY], n: usize) {
+pub fn events(lines: &mut Lines, list: [Event; LEAST_CAPACITY], n: usize) {
     let mut untouched = true;
     for i in 0..LEAST_CAPACITY {
         let e = list[i];
         if i < n {
-            event(e);
+            event(lines, e);
         } else {
             untouched = untouched & is_mark(e);
         }
@@ -73,37 +103,37 @@ pub fn events(list: [Event; LEAST_CAPACITY], n: usize) {
     if untouched {
         return;
     }
-    text(b"  a record past the events is written\n");
+    text(lines, "  a record past the events is written\n");
 }
 
-pub(crate) fn state(s: State) {
+pub(crate) fn state(lines: &mut Lines, s: State) {
     let c = s.core;
-    text(b" latest");
-    number(s.latest);
-    text(b" lost");
-    number(c.lost as u64);
-    text(b" run");
-    number(c.run as u64);
-    text(b" count");
-    number(c.count as u64);
+    text(lines, " latest");
+    number(lines, s.latest);
+    text(lines, " lost");
+    number(lines, c.lost as u64);
+    text(lines, " run");
+    number(lines, c.run as u64);
+    text(lines, " count");
+    number(lines, c.count as u64);
 }
 
 // Refusal number, number of events, and the state.
-pub fn answer(a: Answer) {
-    text(b": refusal");
-    number(a.refusal as u64);
-    text(b" n");
-    number(a.n as u64);
-    state(a.state);
+pub fn answer(lines: &mut Lines, a: Answer) {
+    text(lines, ": refusal");
+    number(lines, a.refusal as u64);
+    text(lines, " n");
+    number(lines, a.n as u64);
+    state(lines, a.state);
 }
 
 // The half-built length of a room.
-pub(crate) fn half(s: State, room: usize) {
+pub(crate) fn half(lines: &mut Lines, s: State, room: usize) {
     let c = s.core;
     let halves = c.half;
     if room < 21 {
-        text(b" half");
-        number(halves[room] as u64);
+        text(lines, " half");
+        number(lines, halves[room] as u64);
     }
 }
 
@@ -115,21 +145,21 @@ fn turned(h: u64, b: u8) -> u64 {
 }
 
 // A digest of the counter table: a byte written anywhere shows.
-pub fn table(s: &[u8]) {
+pub fn table(lines: &mut Lines, s: &[u8]) {
     let mut h = 1u64;
     for i in 0..s.len() {
         h = turned(h, s[i]);
     }
-    text(b" table");
-    hex(h, 16);
+    text(lines, " table");
+    hex(lines, h, 16);
 }
 
 // The same of section memory.
-pub fn memory(m: &[u8; MEMORY]) {
+pub fn memory(lines: &mut Lines, m: &[u8; MEMORY]) {
     let mut h = 1u64;
     for i in 0..MEMORY {
         h = turned(h, m[i]);
     }
-    text(b" memory");
-    hex(h, 16);
+    text(lines, " memory");
+    hex(lines, h, 16);
 }

@@ -5,6 +5,7 @@ ghost use Rattle.std.specs.Prelude.{◌≡◌, length};
 
 use crate::tables;
 use call_lines::run::Carried;
+use call_lines::show::Lines;
 use call_lines::{packets, run, states};
 
 const WRONG_FIRST_BYTE: [u8; 4] = *b"\x46\x40\x00\x11";
@@ -44,13 +45,13 @@ fn packet_of(k: usize) -> [u8; 188]
 }
 
 // Call k, with its line.
-fn shown(k: usize, log: Carried) -> Carried {
+fn shown(lines: &mut Lines, k: usize, log: Carried) -> Carried {
     let time = time_of(k);
     if is_clock(k) {
-        return run::clock(b"log", log, time);
+        return run::clock(lines, "log", log, time);
     }
     let p = packet_of(k);
-    run::given(b"log", log, time, &p, 5)
+    run::given(lines, "log", log, time, &p, 5)
 }
 
 // Call k, without.
@@ -64,33 +65,33 @@ fn silent(k: usize, log: Carried) -> Carried {
 }
 
 // The log up to call k, a call that is refused, then call k.
-fn cut_at(k: usize) {
+fn cut_at(lines: &mut Lines, k: usize) {
     let mut log = run::from(states::fresh(0));
     for j in 0..k {
         log = silent(j, log);
     }
     log = run::silent_packet(log, 5, b"\x47");
-    shown(k, log);
+    shown(lines, k, log);
 }
 
-fn whole() {
+fn whole(lines: &mut Lines) {
     let mut log = run::from(states::fresh(0));
-    log = shown(0, log);
-    log = shown(1, log);
-    log = shown(2, log);
-    log = shown(3, log);
-    log = shown(4, log);
-    log = shown(5, log);
-    shown(6, log);
+    log = shown(lines, 0, log);
+    log = shown(lines, 1, log);
+    log = shown(lines, 2, log);
+    log = shown(lines, 3, log);
+    log = shown(lines, 4, log);
+    log = shown(lines, 5, log);
+    shown(lines, 6, log);
 }
 
-pub fn cut_anywhere() {
-    whole();
-    cut_at(0);
-    cut_at(1);
-    cut_at(2);
-    cut_at(3);
-    cut_at(4);
-    cut_at(5);
-    cut_at(6);
+pub fn cut_anywhere(lines: &mut Lines) {
+    whole(lines);
+    cut_at(lines, 0);
+    cut_at(lines, 1);
+    cut_at(lines, 2);
+    cut_at(lines, 3);
+    cut_at(lines, 4);
+    cut_at(lines, 5);
+    cut_at(lines, 6);
 }

@@ -7,14 +7,19 @@ mod cuts;
 mod streams;
 mod tables;
 
-fn main() {
-    streams::late_tables();
-    streams::lost_sync();
-    streams::counters();
-    streams::adaptation();
-    tables::list_and_programme();
-    tables::scrambled();
-    tables::damaged();
-    tables::two_packets();
-    cuts::cut_anywhere();
+use call_lines::show::Lines;
+use std::io;
+
+fn main(rt: HostRuntime) -> io::Result<()> {
+    let mut lines = Lines::new(rt.stdout());
+    streams::late_tables(&mut lines);
+    streams::lost_sync(&mut lines);
+    streams::counters(&mut lines);
+    streams::adaptation(&mut lines);
+    tables::list_and_programme(&mut lines);
+    tables::scrambled(&mut lines);
+    tables::damaged(&mut lines);
+    tables::two_packets(&mut lines);
+    cuts::cut_anywhere(&mut lines);
+    lines.end()
 }

@@ -1,5 +1,6 @@
 // Sections: a list and its programmes, scrambling, damage, and a section in two packets. Every CRC_32 is that
 // of the bytes before it, but where the name says otherwise.
+use call_lines::show::Lines;
 use call_lines::{run, states};
 
 // A PAT that lists programme 1 on the PID 0x1000, and a PMT of that programme.
@@ -17,35 +18,44 @@ const PAT_OF_2: [u8; 21] =
 const PAT_WITH_BAD_LIST: [u8; 25] =
     *b"\x47\x40\x00\x12\x00\x00\xb0\x11\x00\x01\xc5\x00\x00\x00\x03\xf0\x01\x00\x04\xe0\x1f\x78\xcd\xff\xf8";
 
-pub fn list_and_programme() {
+pub fn list_and_programme(lines: &mut Lines) {
     let mut log = run::from(states::fresh(0));
-    log = run::packet(b"PAT of 1", log, 100, &PAT_OF_1, 0);
-    log = run::packet(b"PMT of 1", log, 200, &PMT_OF_1, 5);
-    log = run::clock(b"PAT gap of 13500000", log, 13_500_100);
-    log = run::clock(b"PAT late", log, 13_500_101);
-    log = run::clock(b"PMT of 1 late", log, 13_500_201);
-    log = run::packet(b"PAT of 2", log, 20_000_000, &PAT_OF_2, 0);
+    log = run::packet(lines, "PAT of 1", log, 100, &PAT_OF_1, 0);
+    log = run::packet(lines, "PMT of 1", log, 200, &PMT_OF_1, 5);
+    log = run::clock(lines, "PAT gap of 13500000", log, 13_500_100);
+    log = run::clock(lines, "PAT late", log, 13_500_101);
+    log = run::clock(lines, "PMT of 1 late", log, 13_500_201);
+    log = run::packet(lines, "PAT of 2", log, 20_000_000, &PAT_OF_2, 0);
     let mut again = PMT_OF_1;
     again[3] = 0x11;
-    log = run::packet(b"PMT of 1, not listed", log, 20_000_001, &again, 5);
-    log = run::clock(b"PAT and PMT of 2 late", log, 33_500_001);
+    log = run::packet(lines, "PMT of 1, not listed", log, 20_000_001, &again, 5);
+    log = run::clock(lines, "PAT and PMT of 2 late", log, 33_500_001);
     log = run::packet(
-        b"PAT with a bad list",
+        lines,
+        "PAT with a bad list",
         log,
         33_500_002,
         &PAT_WITH_BAD_LIST,
         0,
     );
-    run::clock(b"PMT of 3 late", log, 47_000_003);
+    run::clock(lines, "PMT of 3 late", log, 47_000_003);
 }
 
-pub fn scrambled() {
+pub fn scrambled(lines: &mut Lines) {
     let mut log = run::from(states::with_half(states::two_listed(states::fresh(0)), 0, 2));
-    log = run::packet(b"scrambled on PID 0", log, 1, b"\x47\x00\x00\x90", 0);
-    log = run::packet(b"scrambled on a PMT PID", log, 2, b"\x47\x10\x01\x50", 6);
-    log = run::packet(b"scrambled elsewhere", log, 3, b"\x47\x00\x11\xd0", 2);
+    log = run::packet(lines, "scrambled on PID 0", log, 1, b"\x47\x00\x00\x90", 0);
+    log = run::packet(
+        lines,
+        "scrambled on a PMT PID",
+        log,
+        2,
+        b"\x47\x10\x01\x50",
+        6,
+    );
+    log = run::packet(lines, "scrambled elsewhere", log, 3, b"\x47\x00\x11\xd0", 2);
     run::packet(
-        b"scrambled, without payload",
+        lines,
+        "scrambled, without payload",
         log,
         4,
         b"\x47\x10\x01\xe0\xb7\x00",
@@ -59,39 +69,44 @@ const PAT_WITH_WRONG_CRC: [u8; 21] =
 const WRONG_AND_GOOD: [u8; 37] =
     *b"\x47\x40\x00\x14\x00\x00\xb0\x0d\x00\x01\xc1\x00\x00\x00\x01\xf0\x00\x2a\xb1\x04\xb3\x00\xb0\x0d\x00\x01\xc1\x00\x00\x00\x01\xf0\x00\x2a\xb1\x04\xb2";
 
-pub fn damaged() {
+pub fn damaged(lines: &mut Lines) {
     let mut log = run::from(states::two_listed(states::fresh(0)));
-    log = run::packet(b"wrong CRC_32", log, 1, &PAT_WITH_WRONG_CRC, 0);
+    log = run::packet(lines, "wrong CRC_32", log, 1, &PAT_WITH_WRONG_CRC, 0);
     log = run::packet(
-        b"section_length 1022",
+        lines,
+        "section_length 1022",
         log,
         2,
         b"\x47\x40\x00\x11\x00\x00\xb3\xfe",
         0,
     );
     log = run::packet(
-        b"section_length 8",
+        lines,
+        "section_length 8",
         log,
         3,
         b"\x47\x40\x00\x12\x00\x00\xb0\x08",
         0,
     );
     log = run::packet(
-        b"table_id 0x01 on PID 0",
+        lines,
+        "table_id 0x01 on PID 0",
         log,
         4,
         b"\x47\x40\x00\x13\x00\x01\x30\x01\x00",
         0,
     );
     log = run::packet(
-        b"table_id 0x00 on a PMT PID",
+        lines,
+        "table_id 0x00 on a PMT PID",
         log,
         5,
         b"\x47\x50\x01\x10\x00\x00\x30\x01\x00",
         6,
     );
     log = run::packet(
-        b"EIT of length 4094",
+        lines,
+        "EIT of length 4094",
         log,
         6,
         b"\x47\x40\x12\x10\x00\x4e\xff\xfe",
@@ -99,8 +114,15 @@ pub fn damaged() {
     );
     let after = log.state;
     log.state = states::with_half(after, 3, 2);
-    log = run::packet(b"pointer 183", log, 7, b"\x47\x40\x12\x11\xb7", 3);
-    run::packet(b"wrong CRC_32, then a good PAT", log, 8, &WRONG_AND_GOOD, 0);
+    log = run::packet(lines, "pointer 183", log, 7, b"\x47\x40\x12\x11\xb7", 3);
+    run::packet(
+        lines,
+        "wrong CRC_32, then a good PAT",
+        log,
+        8,
+        &WRONG_AND_GOOD,
+        0,
+    );
 }
 
 // A PMT section of 203 bytes: 183 of them, then 20.
@@ -109,10 +131,10 @@ pub const FIRST_PART: [u8; 13] = *b"\x47\x50\x00\x10\x00\x02\xb0\xc8\x00\x01\xc1
 pub const LAST_PART: [u8; 24] =
     *b"\x47\x10\x00\x11\xff\xff\xff\xff\xff\xff\xff\xff\xff\xff\xff\xff\xff\xff\xff\xff\xa7\xb3\x07\x7c";
 
-pub fn two_packets() {
+pub fn two_packets(lines: &mut Lines) {
     let mut log = run::from(states::two_listed(states::fresh(0)));
-    log = run::packet(b"183 bytes of 203", log, 1, &FIRST_PART, 5);
-    log = run::packet(b"the last 20", log, 2, &LAST_PART, 5);
-    log = run::clock(b"PAT and PMT of 2 late, not of 1", log, 13_500_002);
-    run::clock(b"PMT of 1 late", log, 13_500_003);
+    log = run::packet(lines, "183 bytes of 203", log, 1, &FIRST_PART, 5);
+    log = run::packet(lines, "the last 20", log, 2, &LAST_PART, 5);
+    log = run::clock(lines, "PAT and PMT of 2 late, not of 1", log, 13_500_002);
+    run::clock(lines, "PMT of 1 late", log, 13_500_003);
 }

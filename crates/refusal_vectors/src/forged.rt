@@ -1,4 +1,5 @@
 // Forged states, each with its number: every condition of refusal 5 and what stands beside it unrefused.
+use call_lines::show::Lines;
 use call_lines::{packets, run, show, states};
 use calls::{Answer, State};
 use sections::MEMORY;
@@ -7,112 +8,184 @@ const ABOVE: u64 = 4611686018427387905;
 
 const GREATEST: u64 = 4611686018427387904;
 
-fn numbers(a: Answer) {
-    show::number(a.refusal as u64);
-    show::number(a.n as u64);
+fn numbers(lines: &mut Lines, a: Answer) {
+    show::number(lines, a.refusal as u64);
+    show::number(lines, a.n as u64);
 }
 
 // The refusal and the number of events of a packet call on the PID 0x0100 and of a clock call.
-pub fn both_over(name: &[u8], state: State, time: u64, memory: &mut [u8; MEMORY]) {
+pub fn both_over(
+    lines: &mut Lines,
+    name: &str,
+    state: State,
+    time: u64,
+    memory: &mut [u8; MEMORY],
+) {
     let p = packets::filled(b"\x47\x01\x00\x10");
     let mut counters = [0u8; 8192];
-    show::text(name);
+    show::text(lines, name);
     let k = byvalue::clock_least(state, time, memory, run::marks());
     let h = byvalue::packet_least(state, time, &p, &mut counters, memory, run::marks());
     let a = h.answer;
     let b = k.answer;
-    show::text(b": packet");
-    numbers(a);
-    show::text(b" clock");
-    numbers(b);
-    show::text(b"\n");
+    show::text(lines, ": packet");
+    numbers(lines, a);
+    show::text(lines, " clock");
+    numbers(lines, b);
+    show::text(lines, "\n");
 }
 
 // The same over memory of zeros.
-pub fn both(name: &[u8], state: State, time: u64) {
+pub fn both(lines: &mut Lines, name: &str, state: State, time: u64) {
     let mut memory = [0u8; MEMORY];
-    both_over(name, state, time, &mut memory);
+    both_over(lines, name, state, time, &mut memory);
 }
 
-pub fn times() {
+pub fn times(lines: &mut Lines) {
     let s = states::fresh(1000);
-    both(b"a fresh state", s, 1000);
-    both(b"latest 2^62", states::with_latest(s, GREATEST), GREATEST);
+    both(lines, "a fresh state", s, 1000);
     both(
-        b"latest above 2^62",
+        lines,
+        "latest 2^62",
+        states::with_latest(s, GREATEST),
+        GREATEST,
+    );
+    both(
+        lines,
+        "latest above 2^62",
         states::with_latest(s, ABOVE),
         GREATEST,
     );
     both(
-        b"PAT since above 2^62",
+        lines,
+        "PAT since above 2^62",
         states::with_since(s, 0, ABOVE),
         1000,
     );
     both(
-        b"NIT since above 2^62",
+        lines,
+        "NIT since above 2^62",
         states::with_since(s, 1, ABOVE),
         1000,
     );
     both(
-        b"SDT since above 2^62",
+        lines,
+        "SDT since above 2^62",
         states::with_since(s, 2, ABOVE),
         1000,
     );
     both(
-        b"EIT since above 2^62",
+        lines,
+        "EIT since above 2^62",
         states::with_since(s, 3, ABOVE),
         1000,
     );
     both(
-        b"TDT since above 2^62",
+        lines,
+        "TDT since above 2^62",
         states::with_since(s, 4, ABOVE),
         1000,
     );
     both(
-        b"TDT since 2^62, after the latest time",
+        lines,
+        "TDT since 2^62, after the latest time",
         states::with_since(s, 4, GREATEST),
         1000,
     );
 }
 
-pub fn lists() {
+pub fn lists(lines: &mut Lines) {
     let s = states::two_listed(states::fresh(1000));
-    both(b"two programmes", s, 1000);
-    both(b"17 programmes", states::with_count(s, 17), 1000);
-    both(b"number 0", states::with_entry(s, 1, 0, 0x1001, 0), 1000);
+    both(lines, "two programmes", s, 1000);
+    both(lines, "17 programmes", states::with_count(s, 17), 1000);
     both(
-        b"a number twice",
+        lines,
+        "number 0",
+        states::with_entry(s, 1, 0, 0x1001, 0),
+        1000,
+    );
+    both(
+        lines,
+        "a number twice",
         states::with_entry(s, 1, 1, 0x1001, 0),
         1000,
     );
-    both(b"a PID twice", states::with_entry(s, 1, 2, 0x1000, 0), 1000);
-    both(b"PID 0x001F", states::with_entry(s, 1, 2, 0x001F, 0), 1000);
-    both(b"PID 0x0020", states::with_entry(s, 1, 2, 0x0020, 0), 1000);
-    both(b"PID 0x1FFE", states::with_entry(s, 1, 2, 0x1FFE, 0), 1000);
-    both(b"PID 0x1FFF", states::with_entry(s, 1, 2, 0x1FFF, 0), 1000);
-    both(b"PID 0xFFFF", states::with_entry(s, 1, 2, 0xFFFF, 0), 1000);
     both(
-        b"since above 2^62",
+        lines,
+        "a PID twice",
+        states::with_entry(s, 1, 2, 0x1000, 0),
+        1000,
+    );
+    both(
+        lines,
+        "PID 0x001F",
+        states::with_entry(s, 1, 2, 0x001F, 0),
+        1000,
+    );
+    both(
+        lines,
+        "PID 0x0020",
+        states::with_entry(s, 1, 2, 0x0020, 0),
+        1000,
+    );
+    both(
+        lines,
+        "PID 0x1FFE",
+        states::with_entry(s, 1, 2, 0x1FFE, 0),
+        1000,
+    );
+    both(
+        lines,
+        "PID 0x1FFF",
+        states::with_entry(s, 1, 2, 0x1FFF, 0),
+        1000,
+    );
+    both(
+        lines,
+        "PID 0xFFFF",
+        states::with_entry(s, 1, 2, 0xFFFF, 0),
+        1000,
+    );
+    both(
+        lines,
+        "since above 2^62",
         states::with_entry(s, 1, 2, 0x1001, ABOVE),
         1000,
     );
     both(
-        b"all of it in an unlisted place",
+        lines,
+        "all of it in an unlisted place",
         states::with_entry(s, 2, 1, 0xFFFF, ABOVE),
         1000,
     );
     both(
-        b"16 programmes, most of number 0",
+        lines,
+        "16 programmes, most of number 0",
         states::with_count(s, 16),
         1000,
     );
 }
 
-pub fn syncs() {
+pub fn syncs(lines: &mut Lines) {
     let s = states::fresh(1000);
-    both(b"in sync, run 1", states::with_sync(s, false, 1), 1000);
-    both(b"in sync, run 2", states::with_sync(s, false, 2), 1000);
-    both(b"lost, run 4", states::with_sync(s, true, 4), 1000);
-    both(b"lost, run 5", states::with_sync(s, true, 5), 1000);
-    both(b"lost, run 255", states::with_sync(s, true, 255), 1000);
+    both(
+        lines,
+        "in sync, run 1",
+        states::with_sync(s, false, 1),
+        1000,
+    );
+    both(
+        lines,
+        "in sync, run 2",
+        states::with_sync(s, false, 2),
+        1000,
+    );
+    both(lines, "lost, run 4", states::with_sync(s, true, 4), 1000);
+    both(lines, "lost, run 5", states::with_sync(s, true, 5), 1000);
+    both(
+        lines,
+        "lost, run 255",
+        states::with_sync(s, true, 255),
+        1000,
+    );
 }

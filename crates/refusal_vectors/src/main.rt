@@ -8,14 +8,19 @@ mod half_built;
 mod refusals;
 mod table_bytes;
 
-fn main() {
-    refusals::openings();
-    refusals::packets();
-    refusals::clocks();
-    forged::times();
-    forged::lists();
-    forged::syncs();
-    half_built::headers();
-    half_built::every_room();
-    table_bytes::every_byte();
+use call_lines::show::Lines;
+use std::io;
+
+fn main(rt: HostRuntime) -> io::Result<()> {
+    let mut lines = Lines::new(rt.stdout());
+    refusals::openings(&mut lines);
+    refusals::packets(&mut lines);
+    refusals::clocks(&mut lines);
+    forged::times(&mut lines);
+    forged::lists(&mut lines);
+    forged::syncs(&mut lines);
+    half_built::headers(&mut lines);
+    half_built::every_room(&mut lines);
+    table_bytes::every_byte(&mut lines);
+    lines.end()
 }

@@ -1,8 +1,9 @@
 // The table byte of the packet's PID, from 0 to 255: a packet with payload and counter 0.
+use call_lines::show::Lines;
 use call_lines::{packets, run, show, states};
 use sections::MEMORY;
 
-fn byte(b: u8) {
+fn byte(lines: &mut Lines, b: u8) {
     let p = packets::filled(b"\x47\x01\x00\x10");
     let mut counters = [0u8; 8192];
     let mut memory = [0u8; MEMORY];
@@ -10,19 +11,19 @@ fn byte(b: u8) {
     let s = states::fresh(0);
     let h = byvalue::packet_least(s, 0, &p, &mut counters, &mut memory, run::marks());
     let a = h.answer;
-    show::text(b"table byte");
-    show::number(b as u64);
-    show::text(b": refusal");
-    show::number(a.refusal as u64);
-    show::text(b" n");
-    show::number(a.n as u64);
-    show::text(b" byte");
-    show::number(octets::byte_at(&counters, 256) as u64);
-    show::text(b"\n");
+    show::text(lines, "table byte");
+    show::number(lines, b as u64);
+    show::text(lines, ": refusal");
+    show::number(lines, a.refusal as u64);
+    show::text(lines, " n");
+    show::number(lines, a.n as u64);
+    show::text(lines, " byte");
+    show::number(lines, octets::byte_at(&counters, 256) as u64);
+    show::text(lines, "\n");
 }
 
-pub fn every_byte() {
+pub fn every_byte(lines: &mut Lines) {
     for b in 0..256usize {
-        byte(b as u8);
+        byte(lines, b as u8);
     }
 }

@@ -8,21 +8,23 @@ mod show;
 mod write_cases;
 mod writes;
 
-fn main() {
-    write_cases::annex_b_written();
-    write_cases::annex_b_2_written();
-    read_cases::annex_b_2_printed();
-    read_cases::annex_b_5_printed();
-    read_cases::lengths();
-    read_cases::loops();
-    read_cases::sizes();
-    read_cases::values();
-    read_cases::every_length();
-    read_cases::largest();
-    write_cases::too_wide();
-    write_cases::in_order();
-    write_cases::longest();
-    write_cases::fixed_first();
-    write_cases::fixed_rest();
-    write_cases::others();
+use std::io;
+
+fn main(rt: HostRuntime) -> io::Result<()> {
+    write_cases::annex_b_written(&rt)?;
+    write_cases::annex_b_2_written(&rt)?;
+    read_cases::annex_b_2_printed(&rt)?;
+    read_cases::annex_b_5_printed(&rt)?;
+    read_cases::lengths(&rt)?;
+    read_cases::loops(&rt)?;
+    read_cases::sizes(&rt)?;
+    read_cases::values(&rt)?;
+    read_cases::every_length(&rt)?;
+    read_cases::largest(&rt)?;
+    write_cases::too_wide(&rt)?;
+    write_cases::in_order(&rt)?;
+    write_cases::longest(&rt)?;
+    write_cases::fixed_first(&rt)?;
+    write_cases::fixed_rest(&rt)?;
+    write_cases::others(&rt)
 }

@@ -1,5 +1,7 @@
 // Sections and descriptors that are written, and what the writers answer.
 use crate::show::{hex, number, show, text};
+use std::io;
+use std::io::Print;
 use testdata::{Fields, Fixed, Head, Syntax, Written};
 
 pub fn head(table_id: u8, priority: u8, reserved: u8) -> Head {
@@ -34,17 +36,18 @@ pub fn gps(north_south: u8, latitude: u32, east_west: u8, longitude: u32, elevat
     }
 }
 
-pub fn wrote(w: Written) {
+pub fn wrote(rt: &impl Print, w: Written) -> io::Result<()> {
     match w {
         Written::Length(n) => {
-            text(b" length");
-            number(n as u64);
+            text(rt, " length")?;
+            number(rt, n as u64)?;
         }
         Written::Refused(n) => {
-            text(b" refused");
-            number(n as u64);
+            text(rt, " refused")?;
+            number(rt, n as u64)?;
         }
     }
+    Ok(())
 }
 
 // The first n bytes of s, or all of it.
@@ -55,32 +58,40 @@ fn front(s: &[u8], n: usize) -> &[u8] {
     &s[..n]
 }
 
-pub fn show_front(name: &[u8], s: &[u8], n: usize) {
-    show(name, front(s, n));
+pub fn show_front(rt: &impl Print, name: &str, s: &[u8], n: usize) -> io::Result<()> {
+    show(rt, name, front(s, n))
 }
 
 // A section is written, its bytes are shown, and it is read back.
-pub fn written(name: &[u8], f: Fields, loop_bytes: &[u8], data: &[u8], bytes: bool) {
+pub fn written(
+    rt: &impl Print,
+    name: &str,
+    f: Fields,
+    loop_bytes: &[u8],
+    data: &[u8],
+    bytes: bool,
+) -> io::Result<()> {
     let mut place = [0u8; 4096];
     match testdata::write(f, loop_bytes, data, &mut place) {
         Written::Length(n) => {
-            text(name);
-            text(b" written");
-            number(n as u64);
+            text(rt, name)?;
+            text(rt, " written")?;
+            number(rt, n as u64)?;
             let s = front(&place, n);
             if bytes {
-                hex(s);
+                hex(rt, s)?;
             }
-            text(b"\n");
-            show(name, s);
+            text(rt, "\n")?;
+            show(rt, name, s)?;
         }
         Written::Refused(n) => {
-            text(name);
-            text(b" not written");
-            number(n as u64);
-            text(b"\n");
+            text(rt, name)?;
+            text(rt, " not written")?;
+            number(rt, n as u64)?;
+            text(rt, "\n")?;
         }
     }
+    Ok(())
 }
 
 // Whether the bytes from n on are still 0xAA.
@@ -94,61 +105,82 @@ fn kept(s: &[u8], n: usize) -> bool {
 }
 
 // What a writer answers for the first room bytes of the place, and whether all else is as it was.
-fn refused_in(f: Fields, loop_bytes: &[u8], data: &[u8], place: &mut [u8], room: usize) {
+fn refused_in(
+    rt: &impl Print,
+    f: Fields,
+    loop_bytes: &[u8],
+    data: &[u8],
+    place: &mut [u8],
+    room: usize,
+) -> io::Result<()> {
     if place.len() < room {
-        return;
+        return Ok(());
     }
     let w = testdata::write(f, loop_bytes, data, &mut place[..room]);
-    wrote(w);
+    wrote(rt, w)?;
     match w {
         Written::Length(n) => {
             if kept(place, n) {
-                text(b" rest kept");
+                text(rt, " rest kept")?;
             }
         }
         Written::Refused(_) => {
             if kept(place, 0) {
-                text(b" untouched");
+                text(rt, " untouched")?;
             }
         }
     }
+    Ok(())
 }
 
-pub fn refused(name: &[u8], f: Fields, loop_bytes: &[u8], data: &[u8], room: usize) {
+pub fn refused(
+    rt: &impl Print,
+    name: &str,
+    f: Fields,
+    loop_bytes: &[u8],
+    data: &[u8],
+    room: usize,
+) -> io::Result<()> {
     let mut place = [0xAAu8; 64];
-    text(name);
-    refused_in(f, loop_bytes, data, &mut place, room);
-    text(b"\n");
+    text(rt, name)?;
+    refused_in(rt, f, loop_bytes, data, &mut place, room)?;
+    text(rt, "\n")
 }
 
 // What the writer of one descriptor answers for the first room bytes of the place, and those bytes
 // afterwards.
-fn fixed_in(d: Fixed, place: &mut [u8], room: usize) {
+fn fixed_in(rt: &impl Print, d: Fixed, place: &mut [u8], room: usize) -> io::Result<()> {
     if place.len() < room {
-        return;
+        return Ok(());
     }
-    wrote(testdata::write_fixed(d, &mut place[..room]));
-    hex(front(place, room));
+    wrote(rt, testdata::write_fixed(d, &mut place[..room]))?;
+    hex(rt, front(place, room))
 }
 
-pub fn fixed(name: &[u8], d: Fixed, room: usize) {
+pub fn fixed(rt: &impl Print, name: &str, d: Fixed, room: usize) -> io::Result<()> {
     let mut place = [0xAAu8; 64];
-    text(name);
-    fixed_in(d, &mut place, room);
-    text(b"\n");
+    text(rt, name)?;
+    fixed_in(rt, d, &mut place, room)?;
+    text(rt, "\n")
 }
 
-fn other_in(tag: u8, body: &[u8], place: &mut [u8], room: usize) {
+fn other_in(
+    rt: &impl Print,
+    tag: u8,
+    body: &[u8],
+    place: &mut [u8],
+    room: usize,
+) -> io::Result<()> {
     if place.len() < room {
-        return;
+        return Ok(());
     }
-    wrote(testdata::write_other(tag, body, &mut place[..room]));
-    hex(front(place, room));
+    wrote(rt, testdata::write_other(tag, body, &mut place[..room]))?;
+    hex(rt, front(place, room))
 }
 
-pub fn other(name: &[u8], tag: u8, body: &[u8], room: usize) {
+pub fn other(rt: &impl Print, name: &str, tag: u8, body: &[u8], room: usize) -> io::Result<()> {
     let mut place = [0xAAu8; 64];
-    text(name);
-    other_in(tag, body, &mut place, room);
-    text(b"\n");
+    text(rt, name)?;
+    other_in(rt, tag, body, &mut place, room)?;
+    text(rt, "\n")
 }

@@ -1,8 +1,8 @@
 // What is said on standard error, a line each time. A piece that does not fit the line is left out.
 ghost use Rattle.std.specs.Prelude.{◌≤◌, length};
-ghost use Rattle.io.specs.Counts.{IsPrefixLen};
 
-use libc::STDERR_FILENO;
+use std::fmt::InlineText;
+use std::io::Error;
 use textlog::MALFORMED_LINE;
 
 const TIME_TOO_LATE: u32 = 4;
@@ -12,7 +12,7 @@ const TIME_BACKWARDS: u32 = 6;
 // A piece laid behind the bytes up to a place; the next place.
 fn join(text: &mut [u8], at: usize, piece: &[u8]) -> usize
     requires { at ≤ length text.old }
-    ensures { IsPrefixLen result text.new }
+    ensures { result ≤ length text.new }
 {
     if text.len() - at < piece.len() {
         return at;
@@ -24,17 +24,16 @@ fn join(text: &mut [u8], at: usize, piece: &[u8]) -> usize
 // A number in decimal digits, laid in the same way.
 fn join_number(text: &mut [u8], at: usize, number: u64) -> usize
     requires { at ≤ length text.old }
-    ensures { IsPrefixLen result text.new }
+    ensures { result ≤ length text.new }
 {
-    let mut digits = [0u8; 20];
-    let n = io::decimal(number, &mut digits);
-    join(text, at, &digits[..n])
+    let digits = InlineText::<20>::of(number);
+    join(text, at, digits.as_str().as_bytes())
 }
 
 // What a refusal of a line means.
 fn join_reason(text: &mut [u8], at: usize, refusal: u32) -> usize
     requires { at ≤ length text.old }
-    ensures { IsPrefixLen result text.new }
+    ensures { result ≤ length text.new }
 {
     if refusal == TIME_TOO_LATE {
         return join(text, at, b": time above 2^62");
@@ -48,47 +47,66 @@ fn join_reason(text: &mut [u8], at: usize, refusal: u32) -> usize
     join(text, at, b"")
 }
 
-// How the program is called.
-pub fn usage() {
-    steady::write_whole(STDERR_FILENO, b"usage: tsevents [FILE]\n");
-}
-
-// Says a message with the reason that errno holds, unless errno has changed when the message is written.
-fn say_why(message: &[u8]) {
-    let why = os::errno();
-    steady::write_whole(STDERR_FILENO, message);
-    if (why != 0) & (os::errno() == why) {
-        os::fail(b"");
-        return;
+// The system's words for an error, without its number; nothing where the system gave none.
+fn join_why(text: &mut [u8], at: usize, why: Option<Error>) -> usize
+    requires { at ≤ length text.old }
+    ensures { result ≤ length text.new }
+{
+    let Some(error) = why else {
+        return at;
+    };
+    if error.raw_os_error().is_none() {
+        return at;
     }
-    steady::write_whole(STDERR_FILENO, b"\n");
+    let said = InlineText::<256>::of(error);
+    match said.as_str().rsplit_once(" (os error ") {
+        Some((words, _)) => {
+            let a = join(text, at, b": ");
+            join(text, a, words.as_bytes())
+        }
+        None => at,
+    }
 }
 
-// What failed, and what with; errno says why.
-pub fn failed(what: &[u8], name: &[u8]) {
-    let mut text = io::large_buffer();
+// Where nobody takes it, it is not said.
+fn say(rt: HostRuntime, line: &[u8]) {
+    let _ = steady::write_whole(&rt, &mut rt.stderr(), line);
+}
+
+// How the program is called.
+pub fn usage(rt: HostRuntime) {
+    say(rt, b"usage: tsevents [FILE]\n");
+}
+
+// What failed, and what with, and why.
+pub fn failed(rt: HostRuntime, what: &[u8], name: &[u8], why: Option<Error>) {
+    let mut text = [0u8; 8192];
     let a = join(&mut text, 0, what);
     let b = join(&mut text, a, name);
-    say_why(&text[..b]);
+    let c = join_why(&mut text, b, why);
+    let d = join(&mut text, c, b"\n");
+    say(rt, &text[..d]);
 }
 
-// What failed behind a line of the log; errno says why.
-pub fn failed_behind(what: &[u8], line: u64) {
-    let mut text = io::buffer();
+// What failed behind a line of the log, and why.
+pub fn failed_behind(rt: HostRuntime, what: &[u8], line: u64, why: Option<Error>) {
+    let mut text = [0u8; 4096];
     let a = join(&mut text, 0, what);
     let b = join(&mut text, a, b" behind line ");
     let c = join_number(&mut text, b, line);
-    say_why(&text[..c]);
+    let d = join_why(&mut text, c, why);
+    let e = join(&mut text, d, b"\n");
+    say(rt, &text[..e]);
 }
 
 // That a line of the log is refused.
-pub fn refused(line: u64, refusal: u32) {
-    let mut text = io::buffer();
+pub fn refused(rt: HostRuntime, line: u64, refusal: u32) {
+    let mut text = [0u8; 4096];
     let a = join(&mut text, 0, b"tsevents: line ");
     let b = join_number(&mut text, a, line);
     let c = join(&mut text, b, b" refused with ");
     let d = join_number(&mut text, c, refusal as u64);
     let e = join_reason(&mut text, d, refusal);
     let f = join(&mut text, e, b"\n");
-    steady::write_whole(STDERR_FILENO, &text[..f]);
+    say(rt, &text[..f]);
 }
