@@ -75,7 +75,8 @@ fn entries_sound(times: &[u64], words: &[u16], count: usize) -> bool
             return false;
         }
         let mark = (e.number % 64) as usize;
-        if marks[mark] {
+        let marked = marks[mark];
+        if marked {
             if number_among(e.number, times, words, count, i + 1) {
                 return false;
             }

@@ -42,6 +42,9 @@ fn right_length(control: u8, length: u8) -> bool
     true
 }
 
+// The greatest adaptation length beside a payload.
+const MOST_ADAPTATION: u8 = 182;
+
 // Where the payload begins.
 fn payload_place(control: u8, length: u8) -> usize
     ensures { result ≡ payload_place control length }
@@ -50,7 +53,7 @@ fn payload_place(control: u8, length: u8) -> usize
         return 4;
     }
     if control == 0b11 {
-        if length <= 182 {
+        if length <= MOST_ADAPTATION {
             return 5 + length as usize;
         }
     }

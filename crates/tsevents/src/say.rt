@@ -1,5 +1,5 @@
 // What is said on standard error, a line each time. A piece that does not fit the line is left out.
-ghost use Rattle.std.specs.Prelude.{◌≤◌, length};
+ghost use Rattle.std.specs.Prelude.{◌≡◌, ◌≤◌, length, take};
 
 use std::fmt::InlineText;
 use std::io::Error;
@@ -12,7 +12,7 @@ const TIME_BACKWARDS: u32 = 6;
 // A piece laid behind the bytes up to a place; the next place.
 fn join(text: &mut [u8], at: usize, piece: &[u8]) -> usize
     requires { at ≤ length text.old }
-    ensures { result ≤ length text.new }
+    ensures { (result ≤ length text.new) × (result ≡ length (take result text.new)) }
 {
     if text.len() - at < piece.len() {
         return at;
@@ -24,7 +24,7 @@ fn join(text: &mut [u8], at: usize, piece: &[u8]) -> usize
 // A number in decimal digits, laid in the same way.
 fn join_number(text: &mut [u8], at: usize, number: u64) -> usize
     requires { at ≤ length text.old }
-    ensures { result ≤ length text.new }
+    ensures { (result ≤ length text.new) × (result ≡ length (take result text.new)) }
 {
     let digits = InlineText::<20>::of(number);
     join(text, at, digits.as_str().as_bytes())
@@ -33,7 +33,7 @@ fn join_number(text: &mut [u8], at: usize, number: u64) -> usize
 // What a refusal of a line means.
 fn join_reason(text: &mut [u8], at: usize, refusal: u32) -> usize
     requires { at ≤ length text.old }
-    ensures { result ≤ length text.new }
+    ensures { (result ≤ length text.new) × (result ≡ length (take result text.new)) }
 {
     if refusal == TIME_TOO_LATE {
         return join(text, at, b": time above 2^62");
@@ -50,7 +50,7 @@ fn join_reason(text: &mut [u8], at: usize, refusal: u32) -> usize
 // The system's words for an error, without its number; nothing where the system gave none.
 fn join_why(text: &mut [u8], at: usize, why: Option<Error>) -> usize
     requires { at ≤ length text.old }
-    ensures { result ≤ length text.new }
+    ensures { (result ≤ length text.new) × (result ≡ length (take result text.new)) }
 {
     let Some(error) = why else {
         return at;

@@ -13,7 +13,7 @@ use Rattle.arrays.proofs.Stores.{entry_at, entries_length}
 use Rattle.checks.proofs.Turns.{among_none, entries_here, entries_twice, entries_on, entries_none}
 use Rattle.checks.proofs.Marks.{Marked, unmarked_none, marked_turn, unsound_end}
 use Rattle.checks.proofs.entries_sound.Goals as goal
-use Rattle.checks.proofs.entries_sound.Goals.{then-marks-mark+else-number_among, else-marks-mark}
+use Rattle.checks.proofs.entries_sound.Goals.{then-marked+else-number_among, else-marked}
 
 pub loop-i-init : goal.loop-i-init
 loop-i-init c =
@@ -76,9 +76,9 @@ loop-i-preserved c =
     let marked = subst (λ (j : ℕ). Marked loop.marks (rest j)) next loop.invariant.2 in
     let here : entry_sound (get_or es i no_entry) ≡ true = rw same (sym c.entry_sound.ensures ∙ c.if-not-entry_sound.false) in
     let once : number_among e.number (rest (i + 1)) ≡ false =
-    elim c.if-marks-mark.branch [
-      | then-marks-mark+else-number_among w ↦ sym w.number_among.ensures ∙ w.if-number_among.false
-      | else-marks-mark w ↦ unmarked_none loop.marks (rest (i + 1)) e.number marked w.if-marks-mark.false
+    elim c.if-marked.branch [
+      | then-marked+else-number_among w ↦ sym w.number_among.ensures ∙ w.if-number_among.false
+      | else-marked w ↦ unmarked_none loop.marks (rest (i + 1)) e.number marked w.if-marked.false
     ] in (
       omega arith,
       length-set loop.marks _ _ ∙ loop.invariant.1,
