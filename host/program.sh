@@ -5,14 +5,18 @@ set -euo pipefail
 cd "$(dirname "$0")/.."
 program=target/bin/tsevents
 kit=target/bin/kit
-if [ "${1-}" != --proved ]; then
+newer() { # FILE: a crate's file or crates.txt is newer than it
+    [ -n "$(find crates.txt crates/*/{src,specs,proofs} -newer "$1" -print -quit 2> /dev/null)" ]
+}
+built=crates/tsevents/out/tsevents
+if [ "${1-}" != --proved ] || [ ! -x "$built" ] || newer "$built"; then
     if [ -x "$program" ] && [ "$(cat "$kit" 2> /dev/null)" = "$(rt version)" ] &&
-        [ -z "$(find crates.txt crates/*/{src,specs,proofs} -newer "$program" -print -quit 2> /dev/null)" ]; then
+        ! newer "$program"; then
         exit 0
     fi
     # rt builds a program only to run it: here on an empty log
     rm -f "$program" "$kit"
     (cd crates/tsevents && rt run < /dev/null > /dev/null)
 fi
-install -D -m 755 crates/tsevents/out/tsevents "$program"
+install -D -m 755 "$built" "$program"
 rt version > "$kit"

@@ -52,6 +52,7 @@ row "two arguments" 2 "" "usage: tsevents [FILE]\n" '"$tsevents" "$log" "$log"'
 row "- and an argument" 2 "" "usage: tsevents [FILE]\n" '"$tsevents" - "$log" < "$log"'
 row "no such file" 2 "" "tsevents: cannot open /no/such/log: No such file or directory\n" '"$tsevents" /no/such/log'
 row "an empty name" 2 "" "tsevents: cannot open : No such file or directory\n" '"$tsevents" ""'
+row "a name that is no text" 2 "" "tsevents: cannot open \\0377: Invalid or incomplete multibyte or wide character\n" '"$tsevents" $'"'\\377'"
 row "a name too long" 2 "" "tsevents: cannot open the log: File name too long\n" '"$tsevents" "$(printf "%05000d" 0)"'
 row "a file that begins with -, by its path" 0 "$head$event" "" 'cd "$tools" && cp log ./-log && "$tsevents" ./-log'
 

@@ -22,8 +22,7 @@ check $? "crates.txt and the folders of crates/ differ: $differ"
 
 tar -cf - --exclude='crates/*/out' crates crates.txt | tar -xf - -C "$work"
 for crate in $there; do
-    (cd "$work/crates/$crate" && rt fmt)
-    differ=$(diff -r -q -x out "crates/$crate" "$work/crates/$crate")
+    differ=$(cd "$work/crates/$crate" && rt fmt && cd "$OLDPWD" && diff -r -q -x out "crates/$crate" "$work/crates/$crate")
     check $? "not in the formatter's layout: $differ"
 done
 echo "$passed passed, $failed failed"
