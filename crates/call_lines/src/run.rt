@@ -40,7 +40,7 @@ pub fn marks() -> [Event; LEAST_CAPACITY]
 // A packet call; the half-built length is that of a room.
 pub fn given(
     lines: &mut Lines,
-    name: &str,
+    name: &[u8],
     log: Carried,
     time: u64,
     p: &[u8],
@@ -61,7 +61,7 @@ pub fn given(
     show::half(lines, a.state, room);
     show::table(lines, &counters);
     show::memory(lines, &memory);
-    show::text(lines, "\n");
+    show::text(lines, b"\n");
     show::events(lines, list, a.n);
     let after = a.state;
     Carried {
@@ -74,7 +74,7 @@ pub fn given(
 // The same of a packet of 188 bytes that begins with the given ones.
 pub fn packet(
     lines: &mut Lines,
-    name: &str,
+    name: &[u8],
     log: Carried,
     time: u64,
     bytes: &[u8],
@@ -85,7 +85,7 @@ pub fn packet(
 }
 
 // A clock call.
-pub fn clock(lines: &mut Lines, name: &str, log: Carried, time: u64) -> Carried
+pub fn clock(lines: &mut Lines, name: &[u8], log: Carried, time: u64) -> Carried
     ensures { (result.state ≡ (clock_call log.state time log.memory least_capacity).state)
         × (result.counters ≡ log.counters)
         × (result.memory ≡ log.memory) }
@@ -97,7 +97,7 @@ pub fn clock(lines: &mut Lines, name: &str, log: Carried, time: u64) -> Carried
     let list = h.list;
     show::text(lines, name);
     show::answer(lines, a);
-    show::text(lines, "\n");
+    show::text(lines, b"\n");
     show::events(lines, list, a.n);
     let after = a.state;
     let mut r = log;
@@ -141,10 +141,10 @@ pub fn silent_clock(log: Carried, time: u64) -> Carried
 }
 
 // An opening.
-pub fn open(lines: &mut Lines, name: &str, time: u64, counters: &mut [u8]) {
+pub fn open(lines: &mut Lines, name: &[u8], time: u64, counters: &mut [u8]) {
     let a = probe::open(time, counters);
     show::text(lines, name);
     show::answer(lines, a);
     show::table(lines, counters);
-    show::text(lines, "\n");
+    show::text(lines, b"\n");
 }

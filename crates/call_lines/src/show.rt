@@ -7,7 +7,7 @@ use events::{Event, LEAST_CAPACITY};
 use sections::MEMORY;
 use std::fmt::Display;
 use std::io;
-use std::io::{Error, Print, Stdout};
+use std::io::{Error, Print, Stdout, Write};
 
 // Where lines go. Behind a write that failed nothing more is written; `end` says why, and cannot be left out.
 pub struct Lines {
@@ -29,6 +29,15 @@ impl Lines {
         }
     }
 
+    fn put_bytes(&mut self, bytes: &[u8]) {
+        if self.failed.is_some() {
+            return;
+        }
+        if let Err(why) = self.out.write_all(bytes) {
+            self.failed = Some(why);
+        }
+    }
+
     // Whether all of it was written.
     pub fn end(self) -> io::Result<()> {
         let Lines { out: _, failed } = self;
@@ -39,8 +48,8 @@ impl Lines {
     }
 }
 
-pub fn text(lines: &mut Lines, s: &str) {
-    lines.put(s);
+pub fn text(lines: &mut Lines, s: &[u8]) {
+    lines.put_bytes(s);
 }
 
 // A space and a number.
@@ -81,12 +90,12 @@ fn is_mark(e: Event) -> bool
 
 // Stamp and cause decimal, fault and id four hex digits.
 fn event(lines: &mut Lines, e: Event) {
-    text(lines, " ");
+    text(lines, b" ");
     number(lines, e.stamp);
     hex(lines, e.fault as u64, 4);
     number(lines, e.cause as u64);
     hex(lines, e.id as u64, 4);
-    text(lines, "\n");
+    text(lines, b"\n");
 }
 
 // The first n records, and whether the others are untouched.
@@ -103,26 +112,26 @@ pub fn events(lines: &mut Lines, list: [Event; LEAST_CAPACITY], n: usize) {
     if untouched {
         return;
     }
-    text(lines, "  a record past the events is written\n");
+    text(lines, b"  a record past the events is written\n");
 }
 
 pub(crate) fn state(lines: &mut Lines, s: State) {
     let c = s.core;
-    text(lines, " latest");
+    text(lines, b" latest");
     number(lines, s.latest);
-    text(lines, " lost");
+    text(lines, b" lost");
     number(lines, c.lost as u64);
-    text(lines, " run");
+    text(lines, b" run");
     number(lines, c.run as u64);
-    text(lines, " count");
+    text(lines, b" count");
     number(lines, c.count as u64);
 }
 
 // Refusal number, number of events, and the state.
 pub fn answer(lines: &mut Lines, a: Answer) {
-    text(lines, ": refusal");
+    text(lines, b": refusal");
     number(lines, a.refusal as u64);
-    text(lines, " n");
+    text(lines, b" n");
     number(lines, a.n as u64);
     state(lines, a.state);
 }
@@ -132,7 +141,7 @@ pub(crate) fn half(lines: &mut Lines, s: State, room: usize) {
     let c = s.core;
     let halves = c.half;
     if room < 21 {
-        text(lines, " half");
+        text(lines, b" half");
         number(lines, halves[room] as u64);
     }
 }
@@ -150,7 +159,7 @@ pub fn table(lines: &mut Lines, s: &[u8]) {
     for i in 0..s.len() {
         h = turned(h, s[i]);
     }
-    text(lines, " table");
+    text(lines, b" table");
     hex(lines, h, 16);
 }
 
@@ -160,6 +169,6 @@ pub fn memory(lines: &mut Lines, m: &[u8; MEMORY]) {
     for i in 0..MEMORY {
         h = turned(h, m[i]);
     }
-    text(lines, " memory");
+    text(lines, b" memory");
     hex(lines, h, 16);
 }

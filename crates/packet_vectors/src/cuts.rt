@@ -48,10 +48,10 @@ fn packet_of(k: usize) -> [u8; 188]
 fn shown(lines: &mut Lines, k: usize, log: Carried) -> Carried {
     let time = time_of(k);
     if is_clock(k) {
-        return run::clock(lines, "log", log, time);
+        return run::clock(lines, b"log", log, time);
     }
     let p = packet_of(k);
-    run::given(lines, "log", log, time, &p, 5)
+    run::given(lines, b"log", log, time, &p, 5)
 }
 
 // Call k, without.

@@ -20,42 +20,49 @@ const PAT_WITH_BAD_LIST: [u8; 25] =
 
 pub fn list_and_programme(lines: &mut Lines) {
     let mut log = run::from(states::fresh(0));
-    log = run::packet(lines, "PAT of 1", log, 100, &PAT_OF_1, 0);
-    log = run::packet(lines, "PMT of 1", log, 200, &PMT_OF_1, 5);
-    log = run::clock(lines, "PAT gap of 13500000", log, 13_500_100);
-    log = run::clock(lines, "PAT late", log, 13_500_101);
-    log = run::clock(lines, "PMT of 1 late", log, 13_500_201);
-    log = run::packet(lines, "PAT of 2", log, 20_000_000, &PAT_OF_2, 0);
+    log = run::packet(lines, b"PAT of 1", log, 100, &PAT_OF_1, 0);
+    log = run::packet(lines, b"PMT of 1", log, 200, &PMT_OF_1, 5);
+    log = run::clock(lines, b"PAT gap of 13500000", log, 13_500_100);
+    log = run::clock(lines, b"PAT late", log, 13_500_101);
+    log = run::clock(lines, b"PMT of 1 late", log, 13_500_201);
+    log = run::packet(lines, b"PAT of 2", log, 20_000_000, &PAT_OF_2, 0);
     let mut again = PMT_OF_1;
     again[3] = 0x11;
-    log = run::packet(lines, "PMT of 1, not listed", log, 20_000_001, &again, 5);
-    log = run::clock(lines, "PAT and PMT of 2 late", log, 33_500_001);
+    log = run::packet(lines, b"PMT of 1, not listed", log, 20_000_001, &again, 5);
+    log = run::clock(lines, b"PAT and PMT of 2 late", log, 33_500_001);
     log = run::packet(
         lines,
-        "PAT with a bad list",
+        b"PAT with a bad list",
         log,
         33_500_002,
         &PAT_WITH_BAD_LIST,
         0,
     );
-    run::clock(lines, "PMT of 3 late", log, 47_000_003);
+    run::clock(lines, b"PMT of 3 late", log, 47_000_003);
 }
 
 pub fn scrambled(lines: &mut Lines) {
     let mut log = run::from(states::with_half(states::two_listed(states::fresh(0)), 0, 2));
-    log = run::packet(lines, "scrambled on PID 0", log, 1, b"\x47\x00\x00\x90", 0);
+    log = run::packet(lines, b"scrambled on PID 0", log, 1, b"\x47\x00\x00\x90", 0);
     log = run::packet(
         lines,
-        "scrambled on a PMT PID",
+        b"scrambled on a PMT PID",
         log,
         2,
         b"\x47\x10\x01\x50",
         6,
     );
-    log = run::packet(lines, "scrambled elsewhere", log, 3, b"\x47\x00\x11\xd0", 2);
+    log = run::packet(
+        lines,
+        b"scrambled elsewhere",
+        log,
+        3,
+        b"\x47\x00\x11\xd0",
+        2,
+    );
     run::packet(
         lines,
-        "scrambled, without payload",
+        b"scrambled, without payload",
         log,
         4,
         b"\x47\x10\x01\xe0\xb7\x00",
@@ -71,10 +78,10 @@ const WRONG_AND_GOOD: [u8; 37] =
 
 pub fn damaged(lines: &mut Lines) {
     let mut log = run::from(states::two_listed(states::fresh(0)));
-    log = run::packet(lines, "wrong CRC_32", log, 1, &PAT_WITH_WRONG_CRC, 0);
+    log = run::packet(lines, b"wrong CRC_32", log, 1, &PAT_WITH_WRONG_CRC, 0);
     log = run::packet(
         lines,
-        "section_length 1022",
+        b"section_length 1022",
         log,
         2,
         b"\x47\x40\x00\x11\x00\x00\xb3\xfe",
@@ -82,7 +89,7 @@ pub fn damaged(lines: &mut Lines) {
     );
     log = run::packet(
         lines,
-        "section_length 8",
+        b"section_length 8",
         log,
         3,
         b"\x47\x40\x00\x12\x00\x00\xb0\x08",
@@ -90,7 +97,7 @@ pub fn damaged(lines: &mut Lines) {
     );
     log = run::packet(
         lines,
-        "table_id 0x01 on PID 0",
+        b"table_id 0x01 on PID 0",
         log,
         4,
         b"\x47\x40\x00\x13\x00\x01\x30\x01\x00",
@@ -98,7 +105,7 @@ pub fn damaged(lines: &mut Lines) {
     );
     log = run::packet(
         lines,
-        "table_id 0x00 on a PMT PID",
+        b"table_id 0x00 on a PMT PID",
         log,
         5,
         b"\x47\x50\x01\x10\x00\x00\x30\x01\x00",
@@ -106,7 +113,7 @@ pub fn damaged(lines: &mut Lines) {
     );
     log = run::packet(
         lines,
-        "EIT of length 4094",
+        b"EIT of length 4094",
         log,
         6,
         b"\x47\x40\x12\x10\x00\x4e\xff\xfe",
@@ -114,10 +121,10 @@ pub fn damaged(lines: &mut Lines) {
     );
     let after = log.state;
     log.state = states::with_half(after, 3, 2);
-    log = run::packet(lines, "pointer 183", log, 7, b"\x47\x40\x12\x11\xb7", 3);
+    log = run::packet(lines, b"pointer 183", log, 7, b"\x47\x40\x12\x11\xb7", 3);
     run::packet(
         lines,
-        "wrong CRC_32, then a good PAT",
+        b"wrong CRC_32, then a good PAT",
         log,
         8,
         &WRONG_AND_GOOD,
@@ -133,8 +140,8 @@ pub const LAST_PART: [u8; 24] =
 
 pub fn two_packets(lines: &mut Lines) {
     let mut log = run::from(states::two_listed(states::fresh(0)));
-    log = run::packet(lines, "183 bytes of 203", log, 1, &FIRST_PART, 5);
-    log = run::packet(lines, "the last 20", log, 2, &LAST_PART, 5);
-    log = run::clock(lines, "PAT and PMT of 2 late, not of 1", log, 13_500_002);
-    run::clock(lines, "PMT of 1 late", log, 13_500_003);
+    log = run::packet(lines, b"183 bytes of 203", log, 1, &FIRST_PART, 5);
+    log = run::packet(lines, b"the last 20", log, 2, &LAST_PART, 5);
+    log = run::clock(lines, b"PAT and PMT of 2 late, not of 1", log, 13_500_002);
+    run::clock(lines, b"PMT of 1 late", log, 13_500_003);
 }

@@ -16,7 +16,7 @@ fn numbers(lines: &mut Lines, a: Answer) {
 // The refusal and the number of events of a packet call on the PID 0x0100 and of a clock call.
 pub fn both_over(
     lines: &mut Lines,
-    name: &str,
+    name: &[u8],
     state: State,
     time: u64,
     memory: &mut [u8; MEMORY],
@@ -28,67 +28,67 @@ pub fn both_over(
     let h = byvalue::packet_least(state, time, &p, &mut counters, memory, run::marks());
     let a = h.answer;
     let b = k.answer;
-    show::text(lines, ": packet");
+    show::text(lines, b": packet");
     numbers(lines, a);
-    show::text(lines, " clock");
+    show::text(lines, b" clock");
     numbers(lines, b);
-    show::text(lines, "\n");
+    show::text(lines, b"\n");
 }
 
 // The same over memory of zeros.
-pub fn both(lines: &mut Lines, name: &str, state: State, time: u64) {
+pub fn both(lines: &mut Lines, name: &[u8], state: State, time: u64) {
     let mut memory = [0u8; MEMORY];
     both_over(lines, name, state, time, &mut memory);
 }
 
 pub fn times(lines: &mut Lines) {
     let s = states::fresh(1000);
-    both(lines, "a fresh state", s, 1000);
+    both(lines, b"a fresh state", s, 1000);
     both(
         lines,
-        "latest 2^62",
+        b"latest 2^62",
         states::with_latest(s, GREATEST),
         GREATEST,
     );
     both(
         lines,
-        "latest above 2^62",
+        b"latest above 2^62",
         states::with_latest(s, ABOVE),
         GREATEST,
     );
     both(
         lines,
-        "PAT since above 2^62",
+        b"PAT since above 2^62",
         states::with_since(s, 0, ABOVE),
         1000,
     );
     both(
         lines,
-        "NIT since above 2^62",
+        b"NIT since above 2^62",
         states::with_since(s, 1, ABOVE),
         1000,
     );
     both(
         lines,
-        "SDT since above 2^62",
+        b"SDT since above 2^62",
         states::with_since(s, 2, ABOVE),
         1000,
     );
     both(
         lines,
-        "EIT since above 2^62",
+        b"EIT since above 2^62",
         states::with_since(s, 3, ABOVE),
         1000,
     );
     both(
         lines,
-        "TDT since above 2^62",
+        b"TDT since above 2^62",
         states::with_since(s, 4, ABOVE),
         1000,
     );
     both(
         lines,
-        "TDT since 2^62, after the latest time",
+        b"TDT since 2^62, after the latest time",
         states::with_since(s, 4, GREATEST),
         1000,
     );
@@ -96,71 +96,71 @@ pub fn times(lines: &mut Lines) {
 
 pub fn lists(lines: &mut Lines) {
     let s = states::two_listed(states::fresh(1000));
-    both(lines, "two programmes", s, 1000);
-    both(lines, "17 programmes", states::with_count(s, 17), 1000);
+    both(lines, b"two programmes", s, 1000);
+    both(lines, b"17 programmes", states::with_count(s, 17), 1000);
     both(
         lines,
-        "number 0",
+        b"number 0",
         states::with_entry(s, 1, 0, 0x1001, 0),
         1000,
     );
     both(
         lines,
-        "a number twice",
+        b"a number twice",
         states::with_entry(s, 1, 1, 0x1001, 0),
         1000,
     );
     both(
         lines,
-        "a PID twice",
+        b"a PID twice",
         states::with_entry(s, 1, 2, 0x1000, 0),
         1000,
     );
     both(
         lines,
-        "PID 0x001F",
+        b"PID 0x001F",
         states::with_entry(s, 1, 2, 0x001F, 0),
         1000,
     );
     both(
         lines,
-        "PID 0x0020",
+        b"PID 0x0020",
         states::with_entry(s, 1, 2, 0x0020, 0),
         1000,
     );
     both(
         lines,
-        "PID 0x1FFE",
+        b"PID 0x1FFE",
         states::with_entry(s, 1, 2, 0x1FFE, 0),
         1000,
     );
     both(
         lines,
-        "PID 0x1FFF",
+        b"PID 0x1FFF",
         states::with_entry(s, 1, 2, 0x1FFF, 0),
         1000,
     );
     both(
         lines,
-        "PID 0xFFFF",
+        b"PID 0xFFFF",
         states::with_entry(s, 1, 2, 0xFFFF, 0),
         1000,
     );
     both(
         lines,
-        "since above 2^62",
+        b"since above 2^62",
         states::with_entry(s, 1, 2, 0x1001, ABOVE),
         1000,
     );
     both(
         lines,
-        "all of it in an unlisted place",
+        b"all of it in an unlisted place",
         states::with_entry(s, 2, 1, 0xFFFF, ABOVE),
         1000,
     );
     both(
         lines,
-        "16 programmes, most of number 0",
+        b"16 programmes, most of number 0",
         states::with_count(s, 16),
         1000,
     );
@@ -170,21 +170,21 @@ pub fn syncs(lines: &mut Lines) {
     let s = states::fresh(1000);
     both(
         lines,
-        "in sync, run 1",
+        b"in sync, run 1",
         states::with_sync(s, false, 1),
         1000,
     );
     both(
         lines,
-        "in sync, run 2",
+        b"in sync, run 2",
         states::with_sync(s, false, 2),
         1000,
     );
-    both(lines, "lost, run 4", states::with_sync(s, true, 4), 1000);
-    both(lines, "lost, run 5", states::with_sync(s, true, 5), 1000);
+    both(lines, b"lost, run 4", states::with_sync(s, true, 4), 1000);
+    both(lines, b"lost, run 5", states::with_sync(s, true, 5), 1000);
     both(
         lines,
-        "lost, run 255",
+        b"lost, run 255",
         states::with_sync(s, true, 255),
         1000,
     );

@@ -14,7 +14,7 @@ fn lay(m: &mut [u8; MEMORY], at: usize, b: u8) {
 }
 
 // A state whose room holds the first three bytes of a section, half-built up to two and three.
-fn header(lines: &mut Lines, name: &str, room: usize, at: usize, a: u8, b: u8, c: u8)
+fn header(lines: &mut Lines, name: &[u8], room: usize, at: usize, a: u8, b: u8, c: u8)
     requires { (room < 21) × (at + 2 < memory_size) }
 {
     let s = states::fresh(1000);
@@ -25,7 +25,7 @@ fn header(lines: &mut Lines, name: &str, room: usize, at: usize, a: u8, b: u8, c
     show::text(lines, name);
     forged::both_over(
         lines,
-        ", two bytes",
+        b", two bytes",
         states::with_half(s, room, 2),
         1000,
         &mut m,
@@ -33,7 +33,7 @@ fn header(lines: &mut Lines, name: &str, room: usize, at: usize, a: u8, b: u8, c
     show::text(lines, name);
     forged::both_over(
         lines,
-        ", three bytes",
+        b", three bytes",
         states::with_half(s, room, 3),
         1000,
         &mut m,
@@ -41,13 +41,13 @@ fn header(lines: &mut Lines, name: &str, room: usize, at: usize, a: u8, b: u8, c
 }
 
 pub fn headers(lines: &mut Lines) {
-    header(lines, "length 1021", 0, 0, 0x00, 0xB3, 0xFD);
-    header(lines, "length 1022", 0, 0, 0x00, 0xB3, 0xFE);
-    header(lines, "length 9", 0, 0, 0x00, 0xB0, 0x09);
-    header(lines, "length 8", 0, 0, 0x00, 0xB0, 0x08);
+    header(lines, b"length 1021", 0, 0, 0x00, 0xB3, 0xFD);
+    header(lines, b"length 1022", 0, 0, 0x00, 0xB3, 0xFE);
+    header(lines, b"length 9", 0, 0, 0x00, 0xB0, 0x09);
+    header(lines, b"length 8", 0, 0, 0x00, 0xB0, 0x08);
     header(
         lines,
-        "length 1, no syntax indicator",
+        b"length 1, no syntax indicator",
         0,
         0,
         0x00,
@@ -56,29 +56,29 @@ pub fn headers(lines: &mut Lines) {
     );
     header(
         lines,
-        "length 0, no syntax indicator",
+        b"length 0, no syntax indicator",
         0,
         0,
         0x00,
         0x30,
         0x00,
     );
-    header(lines, "0x73 of length 4", 4, 7168, 0x73, 0x70, 0x04);
-    header(lines, "0x73 of length 3", 4, 7168, 0x73, 0x70, 0x03);
-    header(lines, "EIT of length 4093", 3, 3072, 0x4E, 0xFF, 0xFD);
-    header(lines, "EIT of length 4094", 3, 3072, 0x4E, 0xFF, 0xFE);
-    header(lines, "SDT of length 1022", 2, 2048, 0x42, 0xF3, 0xFE);
+    header(lines, b"0x73 of length 4", 4, 7168, 0x73, 0x70, 0x04);
+    header(lines, b"0x73 of length 3", 4, 7168, 0x73, 0x70, 0x03);
+    header(lines, b"EIT of length 4093", 3, 3072, 0x4E, 0xFF, 0xFD);
+    header(lines, b"EIT of length 4094", 3, 3072, 0x4E, 0xFF, 0xFE);
+    header(lines, b"SDT of length 1022", 2, 2048, 0x42, 0xF3, 0xFE);
 }
 
 // Three bytes of 0 are a whole section, in every room, listed or not.
 pub fn every_room(lines: &mut Lines) {
     let s = states::fresh(1000);
     for room in 0..21usize {
-        show::text(lines, "room");
+        show::text(lines, b"room");
         show::number(lines, room as u64);
         forged::both(
             lines,
-            ", three bytes of 0",
+            b", three bytes of 0",
             states::with_half(s, room, 3),
             1000,
         );

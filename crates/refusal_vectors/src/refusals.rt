@@ -14,17 +14,17 @@ pub fn openings(lines: &mut Lines) {
     let mut short = [9u8; 8191];
     run::open(
         lines,
-        "open, table of 8191, time above 2^62",
+        b"open, table of 8191, time above 2^62",
         ABOVE,
         &mut short,
     );
     let mut long = [9u8; 8193];
-    run::open(lines, "open, table of 8193, time 5", 5, &mut long);
+    run::open(lines, b"open, table of 8193, time 5", 5, &mut long);
     let mut counters = [9u8; 8192];
-    run::open(lines, "open, time above 2^62", ABOVE, &mut counters);
-    run::open(lines, "open, time 2^62", GREATEST, &mut counters);
+    run::open(lines, b"open, time above 2^62", ABOVE, &mut counters);
+    run::open(lines, b"open, time 2^62", GREATEST, &mut counters);
     let mut again = [255u8; 8192];
-    run::open(lines, "open, time 0", 0, &mut again);
+    run::open(lines, b"open, time 0", 0, &mut again);
 }
 
 fn sound() -> State {
@@ -41,7 +41,7 @@ fn over(state: State) -> Carried {
 }
 
 // A packet call above the greatest time with a state that is refused and a table of 8191 bytes.
-fn short_table(lines: &mut Lines, name: &str, p: &[u8]) {
+fn short_table(lines: &mut Lines, name: &[u8], p: &[u8]) {
     let forged = states::with_sync(sound(), false, 2);
     let mut counters = [0u8; 8191];
     let mut memory = [90u8; MEMORY];
@@ -52,7 +52,7 @@ fn short_table(lines: &mut Lines, name: &str, p: &[u8]) {
     show::answer(lines, a);
     show::table(lines, &counters);
     show::memory(lines, &memory);
-    show::text(lines, "\n");
+    show::text(lines, b"\n");
     show::events(lines, list, a.n);
 }
 
@@ -63,24 +63,24 @@ pub fn packets(lines: &mut Lines) {
     p[2] = 0x00;
     p[3] = 0x10;
     let more = [71u8; 189];
-    short_table(lines, "packet, 1, 2, 4 and 5", &less);
-    short_table(lines, "packet, 189 bytes", &more);
-    short_table(lines, "packet, no byte", b"");
-    short_table(lines, "packet, 2, 4 and 5", &p);
+    short_table(lines, b"packet, 1, 2, 4 and 5", &less);
+    short_table(lines, b"packet, 189 bytes", &more);
+    short_table(lines, b"packet, no byte", b"");
+    short_table(lines, b"packet, 2, 4 and 5", &p);
     let forged = over(states::with_sync(sound(), false, 2));
-    run::given(lines, "packet, 4 and 5", forged, ABOVE, &p, 0);
-    run::given(lines, "packet, 5 and 6", forged, 999, &p, 0);
+    run::given(lines, b"packet, 4 and 5", forged, ABOVE, &p, 0);
+    run::given(lines, b"packet, 5 and 6", forged, 999, &p, 0);
     let unforged = over(sound());
-    run::given(lines, "packet, 6", unforged, 999, &p, 0);
-    run::given(lines, "packet, none", unforged, 1000, &p, 0);
+    run::given(lines, b"packet, 6", unforged, 999, &p, 0);
+    run::given(lines, b"packet, none", unforged, 1000, &p, 0);
 }
 
 pub fn clocks(lines: &mut Lines) {
     let forged = over(states::with_sync(sound(), true, 5));
-    run::clock(lines, "clock, 4 and 5", forged, ABOVE);
-    run::clock(lines, "clock, 5 and 6", forged, 999);
+    run::clock(lines, b"clock, 4 and 5", forged, ABOVE);
+    run::clock(lines, b"clock, 5 and 6", forged, 999);
     let unforged = over(sound());
-    run::clock(lines, "clock, 6", unforged, 999);
-    run::clock(lines, "clock, none", unforged, 1000);
-    run::clock(lines, "clock, time 2^62", unforged, GREATEST);
+    run::clock(lines, b"clock, 6", unforged, 999);
+    run::clock(lines, b"clock, none", unforged, 1000);
+    run::clock(lines, b"clock, time 2^62", unforged, GREATEST);
 }

@@ -11,15 +11,15 @@ fn byte(lines: &mut Lines, b: u8) {
     let s = states::fresh(0);
     let h = byvalue::packet_least(s, 0, &p, &mut counters, &mut memory, run::marks());
     let a = h.answer;
-    show::text(lines, "table byte");
+    show::text(lines, b"table byte");
     show::number(lines, b as u64);
-    show::text(lines, ": refusal");
+    show::text(lines, b": refusal");
     show::number(lines, a.refusal as u64);
-    show::text(lines, " n");
+    show::text(lines, b" n");
     show::number(lines, a.n as u64);
-    show::text(lines, " byte");
+    show::text(lines, b" byte");
     show::number(lines, octets::byte_at(&counters, 256) as u64);
-    show::text(lines, "\n");
+    show::text(lines, b"\n");
 }
 
 pub fn every_byte(lines: &mut Lines) {
