@@ -18,6 +18,13 @@ pub struct Entry {
     pub since: u64,
 }
 
+// No programme: what the places of a list hold behind the listed ones.
+pub const NO_ENTRY: Entry = Entry {
+    number: 0,
+    pid: 0,
+    since: 0,
+};
+
 // A watched table: its PID, its table_id, the limits of its watch in ticks, the lowest first, and the fault of its events.
 #[derive(Clone, Copy)]
 pub struct Table {
