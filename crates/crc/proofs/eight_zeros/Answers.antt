@@ -1,20 +1,19 @@
 -- `crc::eight_zeros` meets its contract. Assumes nothing.
-use mathlib.Core.Path.{sym, ap, ◌∙◌}
-use Prim.Native.Nat.{◌-◌, ◌<◌, ◌+◌}
+use mathlib.Core.Path.{◌≡◌, refl, sym, ap, ◌∙◌}
+use Prim.Native.Nat.{ℕ}
 use native.Mathlib.Omega.{arith}
-use Rattle.crc.proofs.Register.{shifted, shifted_turn, shifted_none, zeros_shifted}
+use Rattle.crc.specs.Crc.{crc_step}
+use Rattle.crc.proofs.Register.{shifted, shifted_more, zeros_shifted}
 use Rattle.crc.proofs.eight_zeros.Goals as goal
 
-pub loop-k-init : goal.loop-k-init
-loop-k-init c = (omega arith, sym (zeros_shifted 8 c.args.c))
+pub loop-init : goal.loop-init
+unfolding shifted
+loop-init c = refl
 
-pub loop-k-preserved : goal.loop-k-preserved
-loop-k-preserved c =
-    let l = c.loop-k in
-    let h : l.k < 8 = omega arith in
-    (omega arith, ap (shifted (8 - (l.k + 1))) c.crc_shift-r.ensures ∙ sym (shifted_turn 8 l.k l.r h) ∙ l.invariant.1)
+pub loop-preserved : goal.loop-preserved
+loop-preserved c = c.crc_shift-r.ensures ∙ ap (λ (z : ℕ). crc_step z 0) c.loop.invariant ∙ shifted_more c.loop.counter c.args.c
 
 pub returns : goal.returns
 returns c =
-    let l = c.loop-k in
-    sym (shifted_none 8 l.k l.r (omega arith)) ∙ l.invariant.1
+    let all : c.loop.counter ≡ 8 = omega arith in
+    c.loop.invariant ∙ ap (λ (k : ℕ). shifted k c.args.c) all ∙ sym (zeros_shifted 8 c.args.c)

@@ -1,31 +1,29 @@
 -- `crc::fold_byte` meets its contract. Assumes nothing.
-use mathlib.Core.Path.{◌≡◌, sym, ap, ◌∙◌, subst}
-use Prim.Native.Nat.{ℕ, ◌+◌, ◌-◌, ◌%◌, ◌^◌, ◌<◌}
+use mathlib.Core.Path.{◌≡◌, refl, ap, ◌∙◌, subst}
+use Prim.Native.Nat.{ℕ, ◌+◌, ◌*◌, ◌%◌, ◌^◌, ◌<◌}
 use native.Mathlib.Omega.{arith}
+use Rattle.crc.specs.Crc.{crc_step}
 use Rattle.crc.specs.inner.Wide.{register_of}
-use Rattle.crc.proofs.Register.{shifted, shifted_turn, shifted_none}
+use Rattle.crc.proofs.Register.{shifted, shifted_more}
 use Rattle.crc.proofs.Wide.{byte_start, wide_step_lem, wide_lt, wide_low}
 use Rattle.crc.proofs.fold_byte.Goals as goal
 
-pub loop-k-init : goal.loop-k-init
-loop-k-init c = (omega arith, byte_start c.args.b (omega arith), omega arith, omega arith)
+pub loop-init : goal.loop-init
+unfolding shifted
+loop-init c = (refl, omega arith, omega arith)
 
-pub loop-k-preserved : goal.loop-k-preserved
-loop-k-preserved c =
-    let l = c.loop-k in
-    let h : l.k < 8 = omega arith in (
-      omega arith,
-      ap (λ (z : ℕ). shifted (8 - (l.k + 1)) (register_of z)) c.wide_shift-r.ensures
-          ∙ ap (shifted (8 - (l.k + 1))) (wide_step_lem l.r l.invariant.2)
-          ∙ sym (shifted_turn 8 l.k (register_of l.r) h)
-          ∙ l.invariant.1,
-      subst (λ (z : ℕ). z < 2 ^ 64) (sym c.wide_shift-r.ensures) (wide_lt l.r),
-      subst (λ (z : ℕ). z % 2 ^ (56 + (l.k + 1)) < 2 ^ (32 + (l.k + 1))) (sym c.wide_shift-r.ensures) (wide_low l.k l.r h l.invariant.3),
+pub loop-preserved : goal.loop-preserved
+loop-preserved c =
+    let l = c.loop in
+    rw c.wide_shift-r.ensures (
+      wide_step_lem l.r l.invariant.1 ∙ ap (λ (z : ℕ). crc_step z 0) l.invariant.0 ∙ shifted_more l.counter (register_of (c.args.b * 2 ^ 56)),
+      wide_lt l.r,
+      wide_low l.counter l.r c.loop-test.true l.invariant.2,
     )
 
 pub returns : goal.returns
 returns c =
-    let l = c.loop-k in
-    let ends : l.k ≡ 8 = omega arith in
-    let few : l.r % 2 ^ 64 < 2 ^ 40 = subst (λ (n : ℕ). l.r % 2 ^ (56 + n) < 2 ^ (32 + n)) ends l.invariant.3 in
-    (sym (shifted_none 8 l.k (register_of l.r) (omega arith)) ∙ l.invariant.1, omega (arith, few, l.invariant.2))
+    let l = c.loop in
+    let all : l.counter ≡ 8 = omega arith in
+    let few : l.r % 2 ^ 64 < 2 ^ 40 = subst (λ (n : ℕ). l.r % 2 ^ (56 + n) < 2 ^ (32 + n)) all l.invariant.2 in
+    (l.invariant.0 ∙ ap (λ (k : ℕ). shifted k (register_of (c.args.b * 2 ^ 56))) all ∙ byte_start c.args.b (omega arith), omega (arith, few, l.invariant.1))
