@@ -85,11 +85,12 @@ reg_times (suc k) i v e h =
     ∙ ap (shifted k) (reg_double v (lt_of_lt_of_le h (pow_mono less)))
 
 -- a zero let into the 64 digits, by the highest one
-pub wide_high : (u : ℕ) → 2 ^ 63 ≤ u → u < 2 ^ 64 → wide_step u ≡ bit_xor (u % 2 ^ 63 * 2) folded
+pub wide_high : (u : ℕ) → 2 ^ 63 ≤ u → u < 2 ^ 64 → wide_step u ≡ bit_xor (u * 2 % 2 ^ 64) folded
 unfolding wide_step
 wide_high u h k =
     let t : u / 2 ^ 63 ≡ 1 = omega arith in
-    ap (λ (t : ℕ). folded_in t (u % 2 ^ 63 * 2)) t
+    let r : u % 2 ^ 63 * 2 ≡ u * 2 % 2 ^ 64 = omega arith in
+    ap₂ folded_in t r
 
 pub wide_zero : (u : ℕ) → u < 2 ^ 63 → wide_step u ≡ u * 2
 unfolding wide_step

@@ -1,5 +1,5 @@
 -- `crc::fold_byte` meets its contract. Assumes nothing.
-use mathlib.Core.Path.{◌≡◌, refl, ap, ◌∙◌, subst}
+use mathlib.Core.Path.{◌≡◌, ap, ◌∙◌, subst}
 use Prim.Native.Nat.{ℕ, ◌+◌, ◌*◌, ◌%◌, ◌^◌, ◌<◌}
 use native.Mathlib.Omega.{arith}
 use Rattle.crc.specs.Crc.{crc_step}
@@ -10,7 +10,9 @@ use Rattle.crc.proofs.fold_byte.Goals as goal
 
 pub loop-init : goal.loop-init
 unfolding shifted
-loop-init c = (refl, omega arith, omega arith)
+loop-init c =
+    let whole : c.from-r.result * 2 ^ 56 % 2 ^ 64 ≡ c.args.b * 2 ^ 56 = omega (arith, c.from-r.ensures) in
+    (ap register_of whole, omega arith, omega arith)
 
 pub loop-preserved : goal.loop-preserved
 loop-preserved c =
