@@ -7,9 +7,9 @@ ghost use Rattle.std.specs.Prelude.{◌≡◌, ◌<◌};
 ghost use Rattle.severity.specs.Severity.{row_for, set_for, worst_of, answer_for, severity_of};
 
 // The answer: the refusal number (0: none), the classes as a set (TOA 16, POA 8, CM 4, QOS 2,
-// TNC 1), how many they are, and the worst one.
+// TNC 1), how many they are, and the worst one. It is laid out for C, so no Result and no enum.
 #[repr(C)]
-#[derive(Clone, Copy)]
+#[derive(Clone, Copy, PartialEq, Eq, Debug)]
 pub struct Verdict {
     pub refusal: u32,
     pub set: u32,
@@ -73,27 +73,19 @@ const TABLE: [Row; 6] = [
     },
 ];
 
-fn row_of(kind: usize) -> Row
-    requires { kind < 6 }
-    ensures { result ≡ row_for kind }
-{
-    TABLE[kind]
-}
-
 // The classes of a gap.
 fn set_for(r: Row, gap: u64) -> u32
     ensures { result ≡ set_for r gap }
 {
     if r.absence < gap {
-        return r.set;
+        r.set
+    } else if r.qos < gap {
+        QOS_TNC
+    } else if r.tnc < gap {
+        TNC
+    } else {
+        0
     }
-    if r.qos < gap {
-        return QOS_TNC;
-    }
-    if r.tnc < gap {
-        return TNC;
-    }
-    0
 }
 
 // The worst class of a set: its highest one, which the leading zeros give.
@@ -101,11 +93,10 @@ fn worst(set: u32) -> u32
     requires { set < 32 }
     ensures { result ≡ worst_of set }
 {
-    let zeros = u32::leading_zeros(set);
-    if zeros == 32 {
-        return 0;
+    match set.leading_zeros() {
+        32 => 0,
+        zeros => 1 << (31 - zeros),
     }
-    1 << (31 - zeros)
 }
 
 fn answer(set: u32) -> Verdict
@@ -114,8 +105,8 @@ fn answer(set: u32) -> Verdict
 {
     Verdict {
         refusal: 0,
-        set: set,
-        number: u32::count_ones(set),
+        set,
+        number: set.count_ones(),
         worst: worst(set),
     }
 }
@@ -125,13 +116,13 @@ fn answer(set: u32) -> Verdict
 pub fn severity(kind: usize, gap: u64) -> Verdict
     ensures { result ≡ severity_of kind gap }
 {
-    if 6 <= kind {
+    let Some(row) = TABLE.get(kind) else {
         return Verdict {
             refusal: UNLISTED_KIND,
             set: 0,
             number: 0,
             worst: 0,
         };
-    }
-    answer(set_for(row_of(kind), gap))
+    };
+    answer(set_for(*row, gap))
 }
