@@ -9,6 +9,8 @@ use native.Mathlib.Omega.{arith}
 use lib.Dec.{leb, ltb}
 use lib.ListN.{length, get_or, take, length-append, length-take}
 use lib.Seq.{take-suc}
+use Rattle.std.specs.Ordering.{nat_cmp, is_le, is_lt}
+use Rattle.std.proofs.lemmas.Bool.Decides.{nat_tests}
 use Rattle.lateness.specs.Gaps.{keep, due}
 use Rattle.events.specs.declared.Event.{Event}
 use Rattle.events.specs.Events.{event_at}
@@ -17,6 +19,10 @@ use Rattle.watches.specs.declared.Entry.{Entry}
 use Rattle.watches.specs.declared.Table.{Table}
 use Rattle.watches.specs.Tables.{latest_time, pmt_table, fixed_tables, fixed_count, table_of, no_entry}
 use Rattle.watches.specs.Late.{Row, late_events, row_late, rows_late, table_row, entry_row, table_rows, entry_rows}
+
+-- WHETHER A STAMP FALLS DUE, as a range says it
+pub in_range : (p x t : ℕ) → (is_le (nat_cmp p x) && is_lt (nat_cmp x t)) ≡ (leb p x && ltb x t)
+in_range p x t = grind (arith, nat_tests)
 
 -- A WATCH has at most one event for each limit
 pub late_most : (ls : List ℕ) (f i p t s : ℕ) → length (late_events ls f i p t s) ≤ length ls

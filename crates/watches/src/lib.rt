@@ -11,7 +11,7 @@ ghost use Rattle.watches.specs.Late.{late_events, row_late, rows_late, table_row
 use events::{EIT_ERROR, LATE, NIT_ERROR, PAT_ERROR, PMT_ERROR, SDT_ERROR, TDT_ERROR};
 
 // A listed programme: its number, its PMT PID, and the start of its present gap.
-#[derive(Clone, Copy)]
+#[derive(Clone, Copy, PartialEq, Eq, Debug)]
 pub struct Entry {
     pub number: u16,
     pub pid: u16,
@@ -26,7 +26,7 @@ pub const NO_ENTRY: Entry = Entry {
 };
 
 // A watched table: its PID, its table_id, the limits of its watch in ticks, the lowest first, and the fault of its events.
-#[derive(Clone, Copy)]
+#[derive(Clone, Copy, PartialEq, Eq, Debug)]
 pub struct Table {
     pub pid: u16,
     pub id: u8,
@@ -99,47 +99,12 @@ const TABLES: [Table; FIXED + 1] = [
 pub fn table_of(k: usize) -> Table
     ensures { result ≡ table_of k }
 {
-    if k < FIXED {
-        return TABLES[k];
-    }
-    TABLES[FIXED]
-}
-
-// Whether a stamp falls due as time goes from p to t.
-fn falls_due(stamp: u64, p: u64, t: u64) -> bool
-    ensures { result ≡ (leb p stamp && ltb stamp t) }
-{
-    if p <= stamp {
-        return stamp < t;
-    }
-    false
-}
-
-// The late event of one limit of a watch whose gap began at since, if it falls due as time goes from p to t, laid at the
-// place n; the next place.
-fn late_limit(
-    list: &mut [u64],
-    n: usize,
-    p: u64,
-    t: u64,
-    since: u64,
-    limit: u64,
-    fault: u16,
-    id: u16,
-) -> usize
-    requires { (n < least_capacity) × (number_capacity ≤ length list.old) × (since ≤ latest_time) × (limit ≤ latest_time) }
-    ensures { (result ≡ n + length (late_events (limit ∷ []) fault id p t since))
-        × (list.new ≡ events_laid list.old n (late_events (limit ∷ []) fault id p t since)) × (id < 65536) }
-{
-    let stamp = since + limit;
-    if falls_due(stamp, p, t) {
-        return events::put(list, n, stamp, fault, LATE, id);
-    }
-    n
+    TABLES[k.min(FIXED)]
 }
 
 // The late events of a watch whose gap began at since, one for each limit that falls due, laid from the place n on; the
-// next place.
+// next place. List and place stay two parameters, as in the crates above: tried as one struct, and a `&mut` field got no
+// proof.
 fn late_row(
     list: &mut [u64],
     n: usize,
@@ -155,10 +120,11 @@ fn late_row(
         × (list.new ≡ events_laid list.old n (late_events limits.now fault id p t since)) × (id < 65536) }
 {
     let mut m = n;
-    let mut i: usize = 0;
-    while i < limits.len() {
-        m = late_limit(list, m, p, t, since, limits[i], fault, id);
-        i += 1;
+    for &limit in limits {
+        let stamp = since + limit;
+        if (p..t).contains(&stamp) {
+            m = events::put(list, m, stamp, fault, LATE, id);
+        }
     }
     m
 }
@@ -170,12 +136,9 @@ pub fn late_tables(list: &mut [u64], n: usize, p: u64, t: u64, since: &[u64]) ->
         × (list.new ≡ events_laid list.old n (rows_late p t (table_rows fixed_tables since.now))) }
 {
     let mut m = n;
-    let mut k: usize = 0;
-    while k < FIXED {
-        let r = table_of(k);
-        let limits = r.limits;
-        m = late_row(list, m, p, t, since[k], &limits, r.fault, r.pid);
-        k += 1;
+    for (k, &start) in since.iter().enumerate() {
+        let table = table_of(k);
+        m = late_row(list, m, p, t, start, &table.limits, table.fault, table.pid);
     }
     m
 }
@@ -186,7 +149,6 @@ pub fn late_entry(list: &mut [u64], n: usize, p: u64, t: u64, e: Entry) -> usize
     requires { (n < least_capacity) × (number_capacity ≤ length list.old) × (e.since ≤ latest_time) }
     ensures { (result ≡ n + length (row_late p t (entry_row e))) × (list.new ≡ events_laid list.old n (row_late p t (entry_row e))) × (e.number < 65536) }
 {
-    let r = table_of(FIXED);
-    let limits = r.limits;
-    late_row(list, n, p, t, e.since, &limits, r.fault, e.number)
+    let table = table_of(FIXED);
+    late_row(list, n, p, t, e.since, &table.limits, table.fault, e.number)
 }

@@ -1,44 +1,40 @@
 -- `watches::late_row` meets its contract. Assumes nothing.
-use borrow.Author.Rules.{rules}
-use mathlib.Core.Path.{◌≡◌, refl, sym, ap, ◌∙◌}
+use mathlib.Core.Path.{◌≡◌, refl, sym, ◌∙◌}
+use mathlib.Core.List.{[], ◌∷◌}
+use Prim.Native.Nat.{◌+◌}
 use native.Mathlib.Omega.{arith}
-use lib.ListN.{length, take, length-take}
-use lib.Seq.{take_all}
-use Rattle.lists.proofs.Laying.{laid_none, laid_length, laid_turn}
+use mathlib.Core.Bool.{◌&&◌}
+use lib.Dec.{leb, ltb}
+use lib.ListN.{length, get_or, take, length-take}
+use Rattle.lists.proofs.Laying.{laid_none, laid_turn}
 use Rattle.events.specs.Capacity.{record_width}
-use Rattle.events.specs.Events.{numbers_of}
-use Rattle.watches.proofs.Late.{late_most, limits_turn}
+use Rattle.events.specs.Events.{numbers_of, events_laid}
+use Rattle.watches.specs.Late.{late_events}
+use Rattle.watches.proofs.Late.{late_most, limits_turn, in_range}
 use Rattle.watches.proofs.late_row.Goals as goal
+use Rattle.watches.proofs.late_row.Goals.{then-contains, else-contains}
 
-pub loop-i-init : goal.loop-i-init
-loop-i-init c = (omega arith, omega arith, sym (laid_none _ _ _ _))
+pub loop-limit-init : goal.loop-limit-init
+loop-limit-init c = (omega arith, sym (laid_none _ _ _ _))
 
-pub late_limit-m-requires : goal.late_limit-m-requires
-late_limit-m-requires c =
-    let start = c in
-    let args = start.args in
-    let loop = c.loop-i in
-    let limits = args.limits.now in (
-      omega (arith, late_most (take loop.i limits) args.fault args.id args.p args.t args.since, length-take loop.i limits),
-      rw (loop.invariant.2, laid_length) start.requires.1,
-      start.requires.2,
-      start.requires.3 loop.i,
-    )
+pub put-m-requires : goal.put-m-requires
+put-m-requires c =
+    let a = c.args in
+    let before = take c.loop-limit.limit-index a.limits.now in
+    (omega (arith, late_most before a.fault a.id a.p a.t a.since, length-take c.loop-limit.limit-index a.limits.now), omega arith)
 
-pub loop-i-preserved : goal.loop-i-preserved
-loop-i-preserved c =
-    let args = c.args in
-    let loop = c.loop-i in
-    let limit = c.late_limit-m in
-    let w = laid_turn numbers_of record_width (λ e. refl) _ _ _ _ _ _ _ _ loop.invariant.1 loop.invariant.2 limit.ensures.0 limit.ensures.1 in
-    rw (limits_turn args.limits.now loop.i args.fault args.id args.p args.t args.since (omega arith)) (omega arith, w.0, w.1)
-
-pub shape_of-list : goal.shape_of-list
-shape_of-list c = ap length c.loop-i.invariant.2 ∙ laid_length _ _ _ _ _
-
-pub returns : goal.returns
-returns c =
-    let limits = c.args.limits.now in
-    let e : c.loop-i.i ≡ length limits = omega arith in
-    let whole : take c.loop-i.i limits ≡ limits = take_all c.loop-i.i limits (omega arith) in
-    (rw whole at c.loop-i.invariant.1, rw whole at c.loop-i.invariant.2, search rules)
+pub loop-limit-preserved : goal.loop-limit-preserved
+loop-limit-preserved c =
+    let a = c.args in
+    let loop = c.loop-limit in
+    let after = c.if-contains in
+    let es = late_events (get_or a.limits.now loop.limit-index 0 ∷ []) a.fault a.id a.p a.t a.since in
+    let stamp = a.since + get_or a.limits.now loop.limit-index 0 in
+    let falls : c.contains.result ≡ (leb a.p stamp && ltb stamp a.t) = c.contains.ensures.value ∙ in_range a.p stamp a.t in
+    let here : (after.m ≡ loop.m + length es) × (after.list ≡ events_laid loop.list loop.m es) =
+    elim after.branch [
+      | then-contains w ↦ rw (w.m-is, w.list-is, sym falls ∙ w.if-contains.true) w.put-m.ensures
+      | else-contains w ↦ rw (w.m-is, w.list-is, sym falls ∙ w.if-contains.false) (omega arith, sym (laid_none _ _ _ _))
+    ] in
+    let all = laid_turn numbers_of record_width (λ e. refl) _ _ _ _ _ _ _ _ loop.invariant.0 loop.invariant.1 here.0 here.1 in
+    rw (limits_turn a.limits.now loop.limit-index a.fault a.id a.p a.t a.since (omega arith)) all
