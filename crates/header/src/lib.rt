@@ -11,8 +11,8 @@ pub const PACKET_SIZE: usize = 188;
 
 pub const SYNC_BYTE: u8 = 0x47;
 
-// What steps 2 to 5 look at.
-#[derive(Clone, Copy)]
+// What steps 2 to 5 look at. Control and payload stay numbers, not an enum and an Option, as `header_of` of the specs has them.
+#[derive(Clone, Copy, PartialEq, Eq, Debug)]
 pub struct Header {
     pub error: bool,
     pub start: bool,
@@ -23,7 +23,7 @@ pub struct Header {
     // the adaptation length is as its control needs it
     pub right: bool,
     pub discontinuity: bool,
-    // where the payload begins; 188 where there is none
+    // where the payload begins; 188 where there is none, so that the packet from here on is the payload either way
     pub payload: usize,
 }
 
@@ -31,40 +31,31 @@ pub struct Header {
 fn right_length(control: u8, length: u8) -> bool
     ensures { result ≡ right_length control length }
 {
-    // Control 10 needs adaptation length 183,
-    if control == 0b10 {
-        return length == 183;
+    match control {
+        // Control 10 needs adaptation length 183,
+        0b10 => length == 183,
+        // control 11 needs 0 to 182.
+        0b11 => length <= 182,
+        _ => true,
     }
-    // control 11 needs 0 to 182.
-    if control == 0b11 {
-        return length <= 182;
-    }
-    true
 }
-
-// The greatest adaptation length beside a payload.
-const MOST_ADAPTATION: u8 = 182;
 
 // Where the payload begins.
 fn payload_place(control: u8, length: u8) -> usize
     ensures { result ≡ payload_place control length }
 {
-    if control == 0b01 {
-        return 4;
+    match control {
+        0b01 => 4,
+        0b11 if right_length(control, length) => 5 + usize::from(length),
+        _ => PACKET_SIZE,
     }
-    if control == 0b11 {
-        if length <= MOST_ADAPTATION {
-            return 5 + length as usize;
-        }
-    }
-    PACKET_SIZE
 }
 
 // The 13 PID bits in two bytes.
 fn pid_bits(high: u8, low: u8) -> u16
     ensures { (result ≡ high % 32 * 256 + low) × (result < 8192) }
 {
-    (high % 32) as u16 * 256 + low as u16
+    u16::from_be_bytes([high % 32, low])
 }
 
 // The fields of a packet.
@@ -80,9 +71,9 @@ pub fn read(p: &[u8]) -> Header
         start: p[1] / 64 % 2 == 1,
         pid: pid_bits(p[1], p[2]),
         scrambled: 64 <= p[3],
-        control: control,
+        control,
         counter: p[3] % 16,
-        right: right,
+        right,
         // Length 0 has no discontinuity indicator: it counts as 0. With a wrong length it counts as 0 too
         discontinuity: (0b10 <= control) & right & (0 < length) & (128 <= p[5]),
         payload: payload_place(control, length),
