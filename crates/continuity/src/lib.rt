@@ -10,7 +10,7 @@ use header::Header;
 
 // What step 4 leaves: the PID's next table byte, whether there is an event (0x000E), whether the half-built section is kept,
 // and whether the payload is taken.
-#[derive(Clone, Copy)]
+#[derive(Clone, Copy, PartialEq, Eq, Debug)]
 pub struct Counted {
     pub byte: u8,
     pub event: bool,
@@ -22,10 +22,11 @@ pub struct Counted {
 pub fn known_byte(b: u8) -> bool
     ensures { result ≡ known_byte b }
 {
-    (b == 0) | ((16 <= b) & (b <= 31)) | ((48 <= b) & (b <= 63))
+    matches!(b, 0 | 16..=31 | 48..=63)
 }
 
 // Step 4 on the table byte of the packet's PID.
+#[tactic(auto, unfolding(crate::specs::Continuity::counted_of))]
 pub fn judge(byte: u8, h: Header) -> Counted
     requires { h.counter < 16 }
     ensures { result ≡ counted_of byte h }
@@ -60,7 +61,7 @@ pub fn judge(byte: u8, h: Header) -> Counted
     // Control 10: an equal counter changes nothing;
     if control_10 & (counter == last) {
         return Counted {
-            byte: byte,
+            byte,
             event: false,
             keep: section,
             take: false,
@@ -96,7 +97,7 @@ pub fn judge(byte: u8, h: Header) -> Counted
     // Counter c again: 0x000E, byte stays, payload skipped.
     if counter == last {
         return Counted {
-            byte: byte,
+            byte,
             event: true,
             keep: section,
             take: false,

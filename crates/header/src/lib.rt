@@ -59,6 +59,7 @@ fn pid_bits(high: u8, low: u8) -> u16
 }
 
 // The fields of a packet.
+#[tactic(auto, unfolding(crate::specs::Header::header_of))]
 pub fn read(p: &[u8]) -> Header
     requires { length p.now ≡ packet_size }
     ensures { (result ≡ header_of p.now) × (result.pid < 8192) }

@@ -89,6 +89,7 @@ fn set_for(r: Row, gap: u64) -> u32
 }
 
 // The worst class of a set: its highest one, which the leading zeros give.
+#[tactic(auto, using(crate::proofs::Sets::worst_some))]
 fn worst(set: u32) -> u32
     requires { set < 32 }
     ensures { result ≡ worst_of set }
@@ -99,6 +100,7 @@ fn worst(set: u32) -> u32
     }
 }
 
+#[tactic(auto, using(crate::proofs::Sets::ones_number))]
 fn answer(set: u32) -> Verdict
     requires { set < 32 }
     ensures { result ≡ answer_for set }
@@ -113,6 +115,7 @@ fn answer(set: u32) -> Verdict
 
 // How severe a gap of so many ticks is, for a kind of table. A kind that is not listed is refused
 // with 7, and all else is 0.
+#[tactic(auto, using(crate::proofs::Sets::set_lt), unfolding(crate::specs::Severity::severity_of))]
 pub fn severity(kind: usize, gap: u64) -> Verdict
     ensures { result ≡ severity_of kind gap }
 {
