@@ -42,19 +42,19 @@ slice_bounds-copy-end c = sym (length-take-le _ _ (omega arith))
 pub copy-requires-2 : goal.copy-requires-2
 copy-requires-2 c =
     let args = c.args in
-    omega (arith, length-take-le c.to_third-head.result args.s.now (omega arith))
+    omega (arith, length-take-le c.saturating_sub-head.result args.s.now (omega arith))
 
 pub slice_bounds-stage_of-end : goal.slice_bounds-stage_of-end
 slice_bounds-stage_of-end c =
     let args = c.args in
-    let to-third = c.to_third-head in
+    let to-third = c.saturating_sub-head in
     let e = ap length c.copy-2.ensures ∙ length-sets args.mem.now (args.base + args.half) (take to-third.result args.s.now) in
     omega (arith, e)
 
 pub returns-then-not-is_more : goal.returns-then-not-is_more
 returns-then-not-is_more c =
     let args = c.args in
-    let to-third = c.to_third-head in
+    let to-third = c.saturating_sub-head in
     let copy2 = c.copy-2 in
     let stage-of = c.stage_of-stage in
     let pre = c.requires in
@@ -72,7 +72,7 @@ returns-then-not-is_more c =
 pub lay_known-l-requires : goal.lay_known-l-requires
 lay_known-l-requires c =
     let args = c.args in
-    let to-third = c.to_third-head in
+    let to-third = c.saturating_sub-head in
     let copy2 = c.copy-2 in
     let stage-of = c.stage_of-stage in
     let pre = c.requires in
@@ -88,7 +88,7 @@ pub returns : goal.returns
 returns c =
     let args = c.args in
     let pre = c.requires in
-    let to-third = c.to_third-head in
+    let to-third = c.saturating_sub-head in
     let if1 = c.if-s-head in
     let copy2 = c.copy-2 in
     let stage-of = c.stage_of-stage in
