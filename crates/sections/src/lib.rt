@@ -8,7 +8,7 @@ ghost use Rattle.std.proofs.lemmas.List.Edits.{sets};
 ghost use Rattle.lists.specs.Places.{part};
 ghost use Rattle.sections.specs.Rooms.{memory_size, room_count, room_base, greatest_length, half_built};
 ghost use Rattle.sections.specs.Section.{bad_numbers, section_length, extension_of, stage_of, is_more};
-ghost use Rattle.sections.specs.Outcomes.{right_id, crc_wrong, good_numbers, whole_outcome};
+ghost use Rattle.sections.specs.Outcomes.{right_id, crc_wrong, is_good, whole_outcome};
 ghost use Rattle.sections.specs.inner.Steps.{laid_of, laid_in, step_outcome};
 
 use events::{BAD, CRC_ERROR, NO_CAUSE, PAT_ERROR, PMT_ERROR, WRONG_TABLE};
@@ -199,21 +199,22 @@ fn crc_wrong(s: &[u8]) -> bool
     (second >= 128 || id == 0x73) && crc::crc(s) != 0
 }
 
-// Whether a section whose CRC_32 is right is good, by its table_id, its second byte, its length and its
-// sixth byte.
-fn is_good(room: usize, id: usize, second: usize, n: usize, sixth: usize) -> bool
-    ensures { result ≡ good_numbers room id second n sixth }
+// Whether a section whose CRC_32 is right is good.
+fn is_good(s: &[u8], room: usize) -> bool
+    ensures { result ≡ is_good room s.now }
 {
-    if id != right_id(room) {
+    let second = octets::byte_at(s, 1);
+    if octets::byte_at(s, 0) != right_id(room) {
         return false;
     }
     if room == TDT_ROOM {
-        second < 128 && n == 5
+        second < 128 && section_length(s) == 5
     } else {
-        second >= 128 && sixth % 2 == 1
+        second >= 128 && octets::byte_at(s, 5) % 2 == 1
     }
 }
 
+// table_id_extension in the bytes s. There may be too few, and `byte_at` reads 0 past them: from_be_bytes is no plainer.
 fn extension_of(s: &[u8]) -> u16
     ensures { result ≡ extension_of s.now }
 {
@@ -225,36 +226,23 @@ fn extension_of(s: &[u8]) -> u16
 fn judge(s: &[u8], room: usize, pid: u16) -> Outcome
     ensures { result ≡ whole_outcome room pid s.now }
 {
+    let fault = |fault: u16, cause: u8| Outcome::Fault {
+        fault,
+        cause,
+        id: pid,
+    };
     if crc_wrong(s) {
-        return Outcome::Fault {
-            fault: CRC_ERROR,
-            cause: NO_CAUSE,
-            id: pid,
-        };
+        return fault(CRC_ERROR, NO_CAUSE);
     }
     let id = octets::byte_at(s, 0);
     let wrong = id != right_id(room);
     if room == PAT_ROOM && wrong {
-        return Outcome::Fault {
-            fault: PAT_ERROR,
-            cause: WRONG_TABLE,
-            id: pid,
-        };
+        return fault(PAT_ERROR, WRONG_TABLE);
     }
     if room >= FIXED && wrong {
-        return Outcome::Fault {
-            fault: PMT_ERROR,
-            cause: WRONG_TABLE,
-            id: pid,
-        };
+        return fault(PMT_ERROR, WRONG_TABLE);
     }
-    if is_good(
-        room,
-        id,
-        octets::byte_at(s, 1),
-        section_length(s),
-        octets::byte_at(s, 5),
-    ) {
+    if is_good(s, room) {
         return Outcome::Good {
             extension: extension_of(s),
         };
