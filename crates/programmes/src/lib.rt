@@ -153,7 +153,7 @@ fn place_of(entries: &[Entry], pid: u16) -> Option<usize>
 
 // The half-built length of the place k of the new list.
 fn moved_half(old: &[Entry], new: &[Entry], half: &[u16; ROOMS], k: usize) -> u16
-    requires { length old.now ≤ most_listed }
+    requires { (length old.now ≤ most_listed) × (length new.now ≤ most_listed) }
     ensures { result ≡ moved_half old.now new.now half.now k }
 {
     if k >= new.len() || place_of(new, new[k].pid) != Some(k) {
@@ -178,7 +178,7 @@ pub fn none_listed(half: &[u16]) -> bool
 
 // All half-built lengths under the new list.
 fn moved_halves(old: &[Entry], new: &[Entry], half: &[u16; ROOMS]) -> [u16; ROOMS]
-    requires { length old.now ≤ most_listed }
+    requires { (length old.now ≤ most_listed) × (length new.now ≤ most_listed) }
     ensures { result ≡ moved_halves old.now new.now half.now }
 {
     let mut out = *half;

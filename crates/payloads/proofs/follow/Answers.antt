@@ -25,7 +25,7 @@ pub lay-l-requires : goal.lay-l-requires
 lay-l-requires c =
     let start = c in
     let loop = c.loop-at in
-    record { mem_len = (loop.invariant.fit.whole, start.requires.room_lt_room_count.0); half_value = empty_more loop.memory start.args.room }
+    record { mem_len = (loop.invariant.fit.whole, start.requires.room_lt_room_count.0); half_value = empty_more loop.memory start.args.a.room }
 
 pub returns-then-is_more : goal.returns-then-is_more
 returns-then-is_more c =
@@ -34,7 +34,7 @@ returns-then-is_more c =
     let loop = c.loop-at in
     let lay = c.lay-l in
     let all = rest_all args.s.now loop.at in
-    let q : NewSection args.room args.s.now loop.at (core_in loop.times loop.words) loop.memory loop.numbers lay.result _
+    let q : NewSection args.a.room args.s.now loop.at (core_in loop.times loop.words) loop.memory loop.numbers lay.result _
     = record { room = start.requires.room_lt_room_count.0; fit = loop.invariant.fit; step = rw all at lay.ensures.0; memory = rw all at lay.ensures.1; here = c.loop-at-test.true; table = c.if-s-at.false } in
     record { shown = section_waits q loop.invariant.reached _ (sym c.is_more.ensures ∙ c.if-is_more.true) refl; moved = (loop.invariant.moved, omega arith, omega (arith, section_inside q)) }
 
@@ -45,7 +45,7 @@ act-n-requires c =
     let loop = c.loop-at in
     let lay = c.lay-l in
     let all = rest_all args.s.now loop.at in
-    let q : NewSection args.room args.s.now loop.at (core_in loop.times loop.words) loop.memory loop.numbers lay.result _
+    let q : NewSection args.a.room args.s.now loop.at (core_in loop.times loop.words) loop.memory loop.numbers lay.result _
     = record { room = start.requires.room_lt_room_count.0; fit = loop.invariant.fit; step = rw all at lay.ensures.0; memory = rw all at lay.ensures.1; here = c.loop-at-test.true; table = c.if-s-at.false } in
     record { sized = (moved_sized loop.invariant.moved, section_fit q); room_lt_room_count = (q.room, section_inside q, omega (arith, loop.invariant.few, q.here, start.requires.room_lt_room_count)) }
 
@@ -62,7 +62,7 @@ returns-then-is_bad c =
     let loop = c.loop-at in
     let lay = c.lay-l in
     let all = rest_all args.s.now loop.at in
-    let q : NewSection args.room args.s.now loop.at (core_in loop.times loop.words) loop.memory loop.numbers lay.result _
+    let q : NewSection args.a.room args.s.now loop.at (core_in loop.times loop.words) loop.memory loop.numbers lay.result _
     = record { room = start.requires.room_lt_room_count.0; fit = loop.invariant.fit; step = rw all at lay.ensures.0; memory = rw all at lay.ensures.1; here = c.loop-at-test.true; table = c.if-s-at.false } in
     let act = c.act-n in
     let ends = sym c.is_more.ensures ∙ c.if-is_more.false in
@@ -83,7 +83,7 @@ loop-at-smaller c =
     let loop = c.loop-at in
     let lay = c.lay-l in
     let all = rest_all args.s.now loop.at in
-    let q : NewSection args.room args.s.now loop.at (core_in loop.times loop.words) loop.memory loop.numbers lay.result _
+    let q : NewSection args.a.room args.s.now loop.at (core_in loop.times loop.words) loop.memory loop.numbers lay.result _
     = record { room = start.requires.room_lt_room_count.0; fit = loop.invariant.fit; step = rw all at lay.ensures.0; memory = rw all at lay.ensures.1; here = c.loop-at-test.true; table = c.if-s-at.false } in
     omega (arith, rw (all, length-drop) at lay.ensures.2, section_three q (sym c.is_more.ensures ∙ c.if-is_more.false), q.here)
 
@@ -94,7 +94,7 @@ loop-at-preserved c =
     let loop = c.loop-at in
     let lay = c.lay-l in
     let all = rest_all args.s.now loop.at in
-    let q : NewSection args.room args.s.now loop.at (core_in loop.times loop.words) loop.memory loop.numbers lay.result _
+    let q : NewSection args.a.room args.s.now loop.at (core_in loop.times loop.words) loop.memory loop.numbers lay.result _
     = record { room = start.requires.room_lt_room_count.0; fit = loop.invariant.fit; step = rw all at lay.ensures.0; memory = rw all at lay.ensures.1; here = c.loop-at-test.true; table = c.if-s-at.false } in
     let act = c.act-n in
     let ends = sym c.is_more.ensures ∙ c.if-is_more.false in

@@ -17,9 +17,9 @@ returns-then-is_more c =
     let args = start.args in
     let core = core_in args.times.now args.words.now in
     let lay = c.lay-l in
-    let q : HalfBuilt args.room args.memory.now args.half args.s.now lay.result _ core args.numbers.now
+    let q : HalfBuilt args.a.room args.memory.now args.half args.s.now lay.result _ core args.numbers.now
     = record { room = start.requires.room_lt_room_count.0; fit = start.requires.sized.1; more = start.requires.room_lt_room_count.3; step = lay.ensures.0; memory = lay.ensures.1; some = c.if-half-eq0.false } in
-    record { gone = gone_waits q args.time args.pid args.n (sym c.is_more.ensures ∙ c.if-is_more.true); moved = (moved_none start.requires.sized.0, start.requires.sized.1.listed, omega arith, going_short q) }
+    record { gone = gone_waits q args.a.time args.a.pid args.n (sym c.is_more.ensures ∙ c.if-is_more.true); moved = (moved_none start.requires.sized.0, start.requires.sized.1.listed, omega arith, going_short q) }
 
 pub act-next-requires : goal.act-next-requires
 act-next-requires c =
@@ -27,18 +27,28 @@ act-next-requires c =
     let args = start.args in
     let core = core_in args.times.now args.words.now in
     let lay = c.lay-l in
-    let q : HalfBuilt args.room args.memory.now args.half args.s.now lay.result _ core args.numbers.now
+    let q : HalfBuilt args.a.room args.memory.now args.half args.s.now lay.result _ core args.numbers.now
     = record { room = start.requires.room_lt_room_count.0; fit = start.requires.sized.1; more = start.requires.room_lt_room_count.3; step = lay.ensures.0; memory = lay.ensures.1; some = c.if-half-eq0.false } in
     record { sized = (start.requires.sized.0, going_fit q); room_lt_room_count = (start.requires.room_lt_room_count.0, going_inside q, start.requires.room_lt_room_count.2) }
 
-pub returns : goal.returns
-returns c =
-    let start = c in
-    let args = start.args in
+pub returns-then-is_bad : goal.returns-then-is_bad
+returns-then-is_bad c =
+    let args = c.args in
     let core = core_in args.times.now args.words.now in
     let lay = c.lay-l in
-    let q : HalfBuilt args.room args.memory.now args.half args.s.now lay.result _ core args.numbers.now
-    = record { room = start.requires.room_lt_room_count.0; fit = start.requires.sized.1; more = start.requires.room_lt_room_count.3; step = lay.ensures.0; memory = lay.ensures.1; some = c.if-half-eq0.false } in
-    let act = c.act-next in
-    let ends = sym c.is_more.ensures ∙ c.if-is_more.false in
-    record { gone = rw c.is_bad.ensures (gone_acts q args.time args.pid args.n act.ensures.shown ends); moved = (act.ensures.moved.0, act.ensures.moved.1, act.ensures.moved.2, omega arith) }
+    let q : HalfBuilt args.a.room args.memory.now args.half args.s.now lay.result _ core args.numbers.now
+    = record { room = c.requires.room_lt_room_count.0; fit = c.requires.sized.1; more = c.requires.room_lt_room_count.3; step = lay.ensures.0; memory = lay.ensures.1; some = c.if-half-eq0.false } in
+    let act = c.act-next.ensures in
+    let gone = gone_acts q args.a.time args.a.pid args.n act.shown (sym c.is_more.ensures ∙ c.if-is_more.false) in
+    record { gone = rw (sym c.is_bad.ensures ∙ c.if-is_bad.true) at gone; moved = (act.moved.0, act.moved.1, act.moved.2, omega arith) }
+
+pub returns : goal.returns
+returns c =
+    let args = c.args in
+    let core = core_in args.times.now args.words.now in
+    let lay = c.lay-l in
+    let q : HalfBuilt args.a.room args.memory.now args.half args.s.now lay.result _ core args.numbers.now
+    = record { room = c.requires.room_lt_room_count.0; fit = c.requires.sized.1; more = c.requires.room_lt_room_count.3; step = lay.ensures.0; memory = lay.ensures.1; some = c.if-half-eq0.false } in
+    let act = c.act-next.ensures in
+    let gone = gone_acts q args.a.time args.a.pid args.n act.shown (sym c.is_more.ensures ∙ c.if-is_more.false) in
+    record { gone = rw (sym c.is_bad.ensures ∙ c.if-is_bad.false) at gone; moved = (act.moved.0, act.moved.1, act.moved.2, omega arith) }
