@@ -28,9 +28,6 @@ returns-then-none_listed c =
     let long : length halves ≡ room_count = part_length a.words.now halves_at room_count (omega arith) in
     ((λ times. rw (halves_same old new halves most long none)), sym (bytes_same old new halves most long none a.memory.now), search rules)
 
-pub move_sections-moved-requires : goal.move_sections-moved-requires
-move_sections-moved-requires c = record { listed = (search rules, search rules); by_index = rw c.halves_in-half.ensures c.requires.by_index }
-
 pub returns : goal.returns
 returns c =
     let a = c.args in
