@@ -1,6 +1,6 @@
 -- Half-built sections that stay with their PIDs when a list is read. Assumes nothing.
 use mathlib.Core.Path.{◌≡◌, refl, sym, ap, ◌∙◌}
-use mathlib.Core.Bool.{Bool, true, false, cond, ◌&&◌, not, true≢false}
+use mathlib.Core.Bool.{Bool, true, false, cond, ◌&&◌}
 use mathlib.Core.List.{List, [], ◌∷◌, ◌++◌, map, append-nil}
 use Prim.Native.Nat.{ℕ, zero, suc, ◌+◌, ◌≤◌, ◌<◌}
 use native.Mathlib.Nat.{add-zero, le_of_suc-le-suc, not-suc-le-zero}
@@ -8,10 +8,9 @@ use native.Mathlib.Numerals.{add-one}
 use native.Mathlib.Omega.{arith}
 use lib.Dec.{ltb, eqb}
 use Rattle.std.specs.Prelude.{Some, None}
-use Rattle.std.specs.Option.{option_eq}
 use lib.ListN.{length, get_or, set, take, drop_of_length-le, length-append, get_or-append}
 use lib.Seq.{sets, set-get_or, get_or-take, get_or-append-add, length-take-le, sets-eq}
-use borrow.Author.Tests.{eqb-true, ltb-true, ltb-false}
+use borrow.Author.Tests.{ltb-true, ltb-false}
 use Rattle.lists.specs.Places.{part}
 use Rattle.lists.proofs.Tests.{and_left, Order, below, from, order}
 use Rattle.lists.proofs.Places.{part_back}
@@ -123,18 +122,7 @@ module _ (old new : List Entry) (ns : List ℕ) (most : length old ≤ 16) (none
   pub halves_none : length ns ≡ 21 → moved_halves old new ns ≡ ns
   halves_none e = sym (halves_end old new ns e) ∙ laid_none 16 (omega arith)
 
--- the place where the search finds it
-place_is : (q : ℕ) (es : List Entry) (k : ℕ) → not (option_eq eqb (listed_place q es) (Some k)) ≡ false → place_of q es ≡ k
-place_is q es k e = go (is_listed q es) e
-  where
-    same : (b : Bool) → not b ≡ false → b ≡ true
-    same true e = refl
-    same false e = absurd (true≢false e)
-
-    go : (b : Bool) → not (option_eq eqb (cond b (Some (place_of q es)) None) (Some k)) ≡ false → place_of q es ≡ k
-    go true e = eqb-true (place_of q es) k (same (eqb (place_of q es) k) e)
-    go false e = absurd (true≢false e)
-
+-- THE PLACE that the search finds
 pub place_some : (q : ℕ) (es : List Entry) (k : ℕ) → Some k ≡ listed_place q es → k ≡ place_of q es
 place_some q es k e = go (is_listed q es) e
   where
@@ -148,17 +136,6 @@ place_none q es e = go (is_listed q es) refl e
     go : (b : Bool) → is_listed q es ≡ b → None ≡ cond b (Some (place_of q es)) None → length es ≤ place_of q es
     go true l e = absurd cc
     go false l e = ltb-false (place_of q es) (length es) l
-
--- one place more that stays
-pub stayed_turn : (old new : List Entry) (ns : List ℕ) (k : ℕ) → Stayed old new ns k
-    → (0 < half_at ns (room_of_place k) → not (option_eq eqb (listed_place (pid_at new k) old) (Some k)) ≡ false) → Stayed old new ns (k + 1)
-stayed_turn old new ns k s here j h some = go (order j k)
-  where
-    go : Order j k → place_of (pid_at new j) old ≡ j
-    go (below b) = s j b some
-    go (from b) =
-        let e : j ≡ k = omega arith in
-        ap (λ i. place_of (pid_at new i) old) e ∙ place_is (pid_at new k) old k (here (rw e at some)) ∙ sym e
 
 -- BYTES THAT STAND WHERE THEY ARE LAID: there are none, or they stay
 module _ (old new : List Entry) (ns m₀ : List ℕ) where

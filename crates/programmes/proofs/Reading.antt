@@ -1,20 +1,19 @@
 -- The list read entry by entry. Assumes nothing.
 use mathlib.Core.Path.{◌≡◌, refl, sym, ap, ◌∙◌}
-use mathlib.Core.Bool.{Bool, true, false, cond, ◌||◌, not, or-true}
+use mathlib.Core.Bool.{true, false, cond, ◌||◌, or-true}
 use mathlib.Core.List.{List, [], ◌∷◌}
 use Prim.Native.Nat.{ℕ, zero, suc, ◌+◌, ◌*◌, ◌≤◌, ◌<◌}
 use native.Mathlib.Numerals.{add-one}
 use native.Mathlib.Omega.{arith}
-use lib.Dec.{eqb, leb}
+use lib.Dec.{eqb}
 use lib.ListN.{length, drop, length-drop}
-use borrow.Author.Tests.{leb-false}
-use Rattle.lists.proofs.Tests.{or_false_right, Order, below, from, order}
+use Rattle.lists.proofs.Tests.{Order, below, from, order}
 use Rattle.lists.proofs.Turns.{drop_four}
 use Rattle.watches.specs.declared.Entry.{Entry}
 use Rattle.programmes.specs.declared.Listed.{Listed}
 use Rattle.programmes.specs.declared.Addition.{Addition}
 use Rattle.programmes.specs.declared.Addition.TheVariants.{Nothing, Mark, One}
-use Rattle.programmes.specs.Listing.{is_number, pid_unusable, most_listed, entry_for, entered, made_bad, listed_with, read_on}
+use Rattle.programmes.specs.Listing.{is_number, entered, made_bad, read_on}
 use Rattle.programmes.specs.inner.Reading.{number_at, pid_in, seen_to, with_addition}
 
 -- A NUMBER SEEN EARLIER: that of an entry before, or of none
@@ -36,33 +35,6 @@ seen_none n e = refl
 pub seen_next : (n : ℕ) (e : List ℕ) (i : ℕ) → eqb (number_at e i) n ≡ false → is_number n (seen_to e i) ≡ false → is_number n (seen_to e (i + 1)) ≡ false
 unfolding is_number seen_to
 seen_next n e i h s = rw (add-one i, h) s
-
--- a test and its opposite
-opposite : (b c : Bool) → not b ≡ c → b ≡ not c
-opposite true c e = ap not e
-opposite false c e = ap not e
-
--- none of three grounds is met, so not the last
-last : (a b c : Bool) → (a || (b || c)) ≡ false → c ≡ false
-last a b c e = or_false_right b c (or_false_right a (b || c) e)
-
--- ONE ENTRY ENTERED behind c others: whether it is usable says what it adds, and that there is room for it
-abbrev grounds_of : List ℕ → ℕ → ℕ → ℕ → Bool
-grounds_of seen n q c = pid_unusable q || (is_number n seen || leb most_listed c)
-
-pub listed_room : (seen : List ℕ) (n q c : ℕ) (usable : Bool) → usable ≡ not (grounds_of seen n q c) → usable ≡ true → c < 16
-listed_room seen n q c usable says u =
-    leb-false most_listed c (last (pid_unusable q) (is_number n seen) (leb most_listed c) (opposite (grounds_of seen n q c) true (sym says ∙ u)))
-
-module _ (t : ℕ) (old : List Entry) (seen : List ℕ) (n q c : ℕ) (usable : Bool) (says : usable ≡ not (grounds_of seen n q c)) (some : eqb n 0 ≡ false) where
-  grounds : (l : Listed) → l.count ≡ c → grounds_of seen n q l.count ≡ not usable
-  grounds l e = ap (grounds_of seen n q) e ∙ opposite (grounds_of seen n q c) usable (sym says)
-
-  pub entered_bad : usable ≡ false → (l : Listed) → l.count ≡ c → entered t old seen n q l ≡ made_bad l
-  entered_bad u l e = rw (some, grounds l e, u)
-
-  pub entered_listed : usable ≡ true → (l : Listed) → l.count ≡ c → entered t old seen n q l ≡ listed_with (entry_for t old n q) l
-  entered_listed u l e = rw (some, grounds l e, u)
 
 -- the list with what an entry adds: at most sixteen are listed
 pub added_most : (r : Addition) (l : Listed) → l.count ≤ 16 → ((e : Entry) → r ≡ One e → l.count < 16) → (with_addition r l).count ≤ 16

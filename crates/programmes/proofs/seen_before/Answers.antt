@@ -1,5 +1,5 @@
 -- `programmes::seen_before` meets its contract. Assumes nothing.
-use mathlib.Core.Path.{◌≡◌, sym}
+use mathlib.Core.Path.{sym}
 use native.Mathlib.Omega.{arith}
 use borrow.Author.Tests.{eq-eqb, ne_eqb}
 use Rattle.programmes.proofs.Reading.{seen_at, seen_none, seen_next}
@@ -19,8 +19,3 @@ loop-i-preserved c =
     let args = c.args in
     let here = rw c.number_at.ensures at (ne_eqb _ _ c.if-number_at-number.false) in
     seen_next args.number args.e.now c.loop-i.i here c.loop-i.invariant
-
-pub returns : goal.returns
-returns c =
-    let all : c.loop-i.i ≡ c.args.k = omega arith in
-    sym (rw all at c.loop-i.invariant)
