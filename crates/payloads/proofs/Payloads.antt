@@ -54,6 +54,11 @@ pub record HalfBuilt (r : ℕ) (m : List ℕ) (n : ℕ) (s : List ℕ) (l : Laid
   pub memory : m' ≡ laid_in r m n (take l.taken s)
   pub some : n ≡ 0 → ⊥
 
+pub half_built_now : {r : ℕ} {m : List ℕ} {n : ℕ} {s : List ℕ} {l : Laid} {m' : List ℕ} {c : Core} {list : List ℕ}
+    → r < room_count → Fit c m list → is_more (stage_of (greatest_length r) (half_built m r n)) ≡ true
+    → l ≡ laid_of (greatest_length r) (half_built m r n) n s → m' ≡ laid_in r m n (take l.taken s) → (n ≡ 0 → ⊥) → HalfBuilt r m n s l m' c list
+half_built_now room fit more step memory some = record { room = room; fit = fit; more = more; step = step; memory = memory; some = some }
+
 module _ {r : ℕ} {m : List ℕ} {n : ℕ} {s : List ℕ} {l : Laid} {m' : List ℕ} {c : Core} {list : List ℕ} (q : HalfBuilt r m n s l m' c list) where
   begins : Begins going_on r (begun_job m n) s
   begins = begins_within going_on r (begun_job m n) s refl q.some

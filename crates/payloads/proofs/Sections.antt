@@ -2,7 +2,8 @@
 use mathlib.Core.Path.{◌≡◌, refl, sym, ap, ap₂, ◌∙◌}
 use mathlib.Core.Bool.{Bool, true, false, cond, true≢false}
 use mathlib.Core.List.{List, [], ◌++◌, append_assoc, append-nil}
-use Prim.Native.Nat.{ℕ, ◌+◌, ◌≤◌, ◌<◌}
+use Rattle.lists.proofs.Turns.{rest_all}
+use Prim.Native.Nat.{ℕ, ◌+◌, ◌-◌, ◌≤◌, ◌<◌}
 use native.Mathlib.Nat.{add-zero}
 use lib.ListN.{length, get_or, take, drop}
 use lib.Seq.{drop-drop}
@@ -144,6 +145,14 @@ pub record NewSection (r : ℕ) (s : List ℕ) (at : ℕ) (c : Core) (m list : L
   pub memory : m' ≡ laid_in r m 0 (take l.taken (drop at s))
   pub here : at < length s
   pub table : get_or s at 0 ≡ 255 → ⊥
+
+-- its bytes as the code hands them on
+pub new_section : {r : ℕ} {s : List ℕ} {at : ℕ} {c : Core} {m list : List ℕ} {l : Laid} {m' : List ℕ} → r < room_count → Fit c m list
+    → l ≡ laid_of (greatest_length r) (half_built m r 0) 0 (take (length s - at) (drop at s)) → m' ≡ laid_in r m 0 (take l.taken (take (length s - at) (drop at s)))
+    → at < length s → (get_or s at 0 ≡ 255 → ⊥) → NewSection r s at c m list l m'
+new_section {s = s} {at = at} room fit step memory here table =
+    let all = rest_all s at in
+    record { room = room; fit = fit; step = rw all at step; memory = rw all at memory; here = here; table = table }
 
 module _ {r : ℕ} {s : List ℕ} {at : ℕ} {c : Core} {m list : List ℕ} {l : Laid} {m' : List ℕ} (q : NewSection r s at c m list l m') where
   begins : Begins following r (begun_job m 0) (drop at s)

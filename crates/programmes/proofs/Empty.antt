@@ -1,7 +1,7 @@
 -- Half-built lengths that are all 0. Assumes nothing.
-use mathlib.Core.Path.{◌≡◌, refl, sym, ◌∙◌}
+use mathlib.Core.Path.{◌≡◌, refl, sym, ap, ◌∙◌}
 use mathlib.Core.Bool.{Bool, true, false, ◌&&◌}
-use mathlib.Core.List.{List, [], ◌∷◌}
+use mathlib.Core.List.{List, [], ◌∷◌, ◌++◌}
 use Prim.Native.Nat.{ℕ, zero, suc, ◌+◌, ◌-◌, ◌≤◌, ◌<◌}
 use native.Mathlib.Omega.{arith}
 use lib.Dec.{eqb}
@@ -19,6 +19,10 @@ and_assoc : (a b c : Bool) → (a && (b && c)) ≡ (a && b && c)
 and_assoc true b c = refl
 and_assoc false b c = refl
 
+and_true : (b : Bool) → (b && true) ≡ b
+and_true true = refl
+and_true false = refl
+
 pub none_turn : (none : Bool) (l : List ℕ) (at k n : ℕ) → k < n → at + k < length l
     → (none && none_half (part l (at + k) (n - k))) ≡ (none && eqb (get_or l (at + k) 0) 0 && none_half (part l (at + (k + 1)) (n - (k + 1))))
 unfolding none_half
@@ -32,10 +36,11 @@ unfolding none_half part
 none_end none l at k n h =
     let left : n - k ≡ 0 = omega arith in
     rw left (and_true none)
-  where
-    and_true : (b : Bool) → (b && true) ≡ b
-    and_true true = refl
-    and_true false = refl
+
+pub none_push : (ns : List ℕ) (n : ℕ) → none_half (ns ++ (n ∷ [])) ≡ (none_half ns && eqb n 0)
+unfolding none_half
+none_push [] n = and_true (eqb n 0)
+none_push (m ∷ ns) n = ap (λ b. eqb m 0 && b) (none_push ns n) ∙ and_assoc (eqb m 0) (none_half ns) (eqb n 0)
 
 -- EACH of them
 pub none_at : (ns : List ℕ) → none_half ns ≡ true → (r : ℕ) → get_or ns r 0 ≡ 0

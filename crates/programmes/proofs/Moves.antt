@@ -1,6 +1,5 @@
 -- Half-built sections that stay with their PIDs when a list is read. Assumes nothing.
 use mathlib.Core.Path.{◌≡◌, refl, sym, ap, ◌∙◌}
-use mathlib.Core.Logic.{◌≢◌}
 use mathlib.Core.Bool.{Bool, true, false, cond, ◌&&◌}
 use mathlib.Core.List.{List, [], ◌∷◌, ◌++◌, map, append-nil}
 use Prim.Native.Nat.{ℕ, zero, suc, ◌+◌, ◌≤◌, ◌<◌}
@@ -8,60 +7,22 @@ use native.Mathlib.Nat.{add-zero, le_of_suc-le-suc, not-suc-le-zero}
 use native.Mathlib.Numerals.{add-one}
 use native.Mathlib.Omega.{arith}
 use lib.Dec.{ltb, eqb}
+use Rattle.std.specs.Prelude.{Some, None}
 use lib.ListN.{length, get_or, set, take, drop_of_length-le, length-append, get_or-append}
 use lib.Seq.{sets, set-get_or, get_or-take, get_or-append-add, length-take-le, sets-eq}
-use borrow.Author.Tests.{lt-ltb, le-ltb, eq-eqb, ne_eqb, ltb-true}
+use borrow.Author.Tests.{ltb-true, ltb-false}
 use Rattle.lists.specs.Places.{part}
 use Rattle.lists.proofs.Tests.{and_left, Order, below, from, order}
 use Rattle.lists.proofs.Places.{part_back}
 use Rattle.lists.proofs.Laying.{sets_append}
 use Rattle.watches.specs.declared.Entry.{Entry}
-use Rattle.watches.specs.Tables.{no_entry}
 use Rattle.sections.specs.Rooms.{memory_size, room_of_place, room_base, half_built}
 use Rattle.sections.proofs.Stages.{place_fits}
 use Rattle.programmes.proofs.Empty.{none_places}
 use Rattle.programmes.specs.Places.{place_of, is_listed, pid_at, is_first, half_at, places_from, every_place, stood_in, moved_half, moved_halves, moved_section, rooms_laid, moved_bytes}
 use Rattle.programmes.specs.inner.Moving.{none_half}
-use Rattle.programmes.specs.inner.Moving.{section_at, Placed, Stayed}
+use Rattle.programmes.specs.inner.Moving.{listed_place, section_at, Placed, Stayed}
 use Rattle.programmes.proofs.Moved.{room_laid, laid_back, rooms_alike}
-
--- the PID of a listed place
-pub pid_listed : (new : List Entry) (d k : ℕ) → k < d → pid_at (take d new) k ≡ (get_or new k no_entry).pid
-pid_listed new d k h = ap (λ (e : Entry). e.pid) (get_or-take d new k no_entry h)
-
--- THE LENGTH OF A PLACE, by the first test that fails
-module _ (old new : List Entry) (c d : ℕ) (ns : List ℕ) (k : ℕ) (within : d ≤ length new) (without : c ≤ length old) where
-  abbrev pid_here : ℕ
-  pid_here = (get_or new k no_entry).pid
-
-  pub half_past : d ≤ k → moved_half (take c old) (take d new) ns k ≡ 0
-  half_past h = rw (length-take-le d new within, le-ltb k d h)
-
-  pub half_later : k < d → place_of pid_here (take d new) ≢ k → moved_half (take c old) (take d new) ns k ≡ 0
-  half_later h e = rw (length-take-le d new within, lt-ltb k d h, pid_listed new d k h, ne_eqb (place_of pid_here (take d new)) k e)
-
-  pub half_unlisted : k < d → place_of pid_here (take d new) ≡ k → c ≤ place_of pid_here (take c old) → moved_half (take c old) (take d new) ns k ≡ 0
-  half_unlisted h e g =
-      rw (
-        length-take-le d new within,
-        lt-ltb k d h,
-        pid_listed new d k h,
-        eq-eqb (place_of pid_here (take d new)) k e,
-        length-take-le c old without,
-        le-ltb (place_of pid_here (take c old)) c g,
-      )
-
-  pub half_kept : k < d → place_of pid_here (take d new) ≡ k → place_of pid_here (take c old) < c
-      → moved_half (take c old) (take d new) ns k ≡ half_at ns (room_of_place (place_of pid_here (take c old)))
-  half_kept h e g =
-      rw (
-        length-take-le d new within,
-        lt-ltb k d h,
-        pid_listed new d k h,
-        eq-eqb (place_of pid_here (take d new)) k e,
-        length-take-le c old without,
-        lt-ltb (place_of pid_here (take c old)) c g,
-      )
 
 -- ALL PLACES, one after the other: the number f k for each place k
 module _ (f : ℕ → ℕ) where
@@ -161,19 +122,20 @@ module _ (old new : List Entry) (ns : List ℕ) (most : length old ≤ 16) (none
   pub halves_none : length ns ≡ 21 → moved_halves old new ns ≡ ns
   halves_none e = sym (halves_end old new ns e) ∙ laid_none 16 (omega arith)
 
--- one place more that stays
-pub stayed_turn : (old new : List Entry) (d : ℕ) (ns : List ℕ) (k : ℕ) → k < d → Stayed old (take d new) ns k
-    → (0 < half_at ns (room_of_place k) → place_of (get_or new k no_entry).pid old ≡ k) → Stayed old (take d new) ns (k + 1)
-stayed_turn old new d ns k l s here j h some = go (order j k)
+-- THE PLACE that the search finds
+pub place_some : (q : ℕ) (es : List Entry) (k : ℕ) → Some k ≡ listed_place q es → k ≡ place_of q es
+place_some q es k e = go (is_listed q es) e
   where
-    go : Order j k → place_of (pid_at (take d new) j) old ≡ j
-    go (below b) = s j b some
-    go (from b) =
-        let e : j ≡ k = omega arith in
-        ap (λ i. place_of (pid_at (take d new) i) old) e
-        ∙ ap (λ q. place_of q old) (pid_listed new d k l)
-        ∙ here (rw e at some)
-        ∙ sym e
+    go : (b : Bool) → Some k ≡ cond b (Some (place_of q es)) None → k ≡ place_of q es
+    go true e = cc
+    go false e = absurd cc
+
+place_none : (q : ℕ) (es : List Entry) → None ≡ listed_place q es → length es ≤ place_of q es
+place_none q es e = go (is_listed q es) refl e
+  where
+    go : (b : Bool) → is_listed q es ≡ b → None ≡ cond b (Some (place_of q es)) None → length es ≤ place_of q es
+    go true l e = absurd cc
+    go false l e = ltb-false (place_of q es) (length es) l
 
 -- BYTES THAT STAND WHERE THEY ARE LAID: there are none, or they stay
 module _ (old new : List Entry) (ns m₀ : List ℕ) where
@@ -187,6 +149,13 @@ module _ (old new : List Entry) (ns m₀ : List ℕ) where
       go : Order 0 (half_at ns (room_of_place k)) → room_laid (section_at old new ns m₀) k m ≡ m
       go (from none) = none_back k m (omega arith)
       go (below some) = absurd (omega (arith, (p k h some).listed))
+
+  pub unlisted_back : Placed old new ns → (k : ℕ) (m : List ℕ) → None ≡ listed_place (pid_at new k) old → k < 16 → room_laid (section_at old new ns m₀) k m ≡ m
+  unlisted_back p k m e h = go (order 0 (half_at ns (room_of_place k)))
+    where
+      go : Order 0 (half_at ns (room_of_place k)) → room_laid (section_at old new ns m₀) k m ≡ m
+      go (from none) = none_back k m (omega arith)
+      go (below some) = absurd (omega (arith, (p k h some).before, place_none (pid_at new k) old e))
 
   pub stayed_back : length m₀ ≡ memory_size → Placed old new ns → Stayed old new ns (length new) → (k : ℕ) → k < 16 → room_laid (section_at old new ns m₀) k m₀ ≡ m₀
   stayed_back l p s k h = go (order 0 (half_at ns (room_of_place k)))

@@ -1,32 +1,43 @@
--- Searches through a list, one turn of the loop at a time: what is still to be searched begins with the entry at hand. Assumes nothing.
-use mathlib.Core.Path.{◌≡◌}
-use mathlib.Core.Bool.{true, false}
-use mathlib.Core.List.{List}
+-- Searches through a list, by the library and one turn of a loop at a time: what is still to be searched begins with the entry at hand.
+-- Assumes nothing.
+use mathlib.Core.Path.{◌≡◌, refl, sym, ap}
+use mathlib.Core.Bool.{Bool, true, false, cond}
+use mathlib.Core.List.{List, [], ◌∷◌}
 use Prim.Native.Nat.{ℕ, suc, ◌+◌, ◌≤◌, ◌<◌}
-use lib.Dec.{eqb}
+use lib.Dec.{eqb, ltb}
+use Rattle.std.specs.Prelude.{Some, None, unwrap_or, position, find}
+use Rattle.std.proofs.Math.Numerals.{one-add}
+use Rattle.std.proofs.lemmas.List.Recursion.{is_position_or_len}
 use lib.ListN.{length, get_or, take, drop}
 use Rattle.lists.proofs.Turns.{left_turn, left_none}
 use Rattle.watches.specs.declared.Entry.{Entry}
 use Rattle.watches.specs.Tables.{no_entry}
 use Rattle.programmes.specs.Listing.{is_pair, entry_for}
+use Rattle.programmes.specs.inner.Moving.{listed_place}
 use Rattle.programmes.specs.Places.{place_of}
 
+-- THE LIBRARY'S SEARCHES are these
+pub place_found : (q : ℕ) (es : List Entry) → position (λ (e : Entry). eqb e.pid q) es ≡ listed_place q es
+unfolding place_of
+place_found q es =
+    ap (λ k. cond (ltb k (length es)) (Some k) None) (sym (is_position_or_len (place_of q) (λ (e : Entry). eqb e.pid q) refl turn es))
+  where
+    turn : (e : Entry) (es : List Entry) → place_of q (e ∷ es) ≡ cond (eqb e.pid q) 0 (1 + place_of q es)
+    turn e es = ap (cond (eqb e.pid q) 0) (sym (one-add (place_of q es)))
+
+pub entry_found : (t n q : ℕ) (es : List Entry) → unwrap_or (find (is_pair n q) es) (record { number = n; pid = q; since = t }) ≡ entry_for t es n q
+unfolding entry_for
+entry_found t n q [] = refl
+entry_found t n q (e ∷ es) = go (is_pair n q e) (entry_found t n q es)
+  where
+    new : Entry
+    new = record { number = n; pid = q; since = t }
+
+    go : (b : Bool) → unwrap_or (find (is_pair n q) es) new ≡ entry_for t es n q → unwrap_or (cond b (Some e) (find (is_pair n q) es)) new ≡ cond b e (entry_for t es n q)
+    go true h = refl
+    go false h = h
+
 module _ (es : List Entry) (count i : ℕ) (fits : count ≤ length es) where
-  -- the entry of a pair
-  pub entry_here : (t n q : ℕ) → i < count → is_pair n q (get_or es i no_entry) ≡ true
-      → entry_for t (drop i (take count es)) n q ≡ get_or es i no_entry
-  unfolding entry_for
-  entry_here t n q h e = rw (left_turn es count i no_entry h fits, e)
-
-  pub entry_on : (t n q : ℕ) → i < count → is_pair n q (get_or es i no_entry) ≡ false
-      → entry_for t (drop i (take count es)) n q ≡ entry_for t (drop (i + 1) (take count es)) n q
-  unfolding entry_for
-  entry_on t n q h e = rw (left_turn es count i no_entry h fits, e)
-
-  pub entry_none : (t n q : ℕ) → count ≤ i → entry_for t (drop i (take count es)) n q ≡ record { number = n; pid = q; since = t }
-  unfolding entry_for
-  entry_none t n q h = rw (left_none es count i h fits)
-
   -- the first place with a PID
   pub place_here : (q : ℕ) → i < count → eqb (get_or es i no_entry).pid q ≡ true → place_of q (drop i (take count es)) ≡ 0
   unfolding place_of

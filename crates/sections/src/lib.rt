@@ -3,20 +3,19 @@
 
 #![tactic(auto)]
 
-ghost use Rattle.std.specs.Prelude.{◌≡◌, true, cond, ◌+◌, ◌-◌, ◌<◌, ◌≤◌, ltb, length, take};
+ghost use Rattle.std.specs.Prelude.{◌≡◌, true, ◌+◌, ◌<◌, ◌≤◌, length, take};
 ghost use Rattle.std.proofs.lemmas.List.Edits.{sets};
 ghost use Rattle.lists.specs.Places.{part};
-ghost use Rattle.sections.specs.declared.Stage.TheVariants.{More, Whole};
 ghost use Rattle.sections.specs.Rooms.{memory_size, room_count, room_base, greatest_length, half_built};
 ghost use Rattle.sections.specs.Section.{bad_numbers, section_length, extension_of, stage_of, is_more};
-ghost use Rattle.sections.specs.Outcomes.{right_id, crc_wrong, good_numbers, whole_outcome};
+ghost use Rattle.sections.specs.Outcomes.{right_id, crc_wrong, is_good, whole_outcome};
 ghost use Rattle.sections.specs.inner.Steps.{laid_of, laid_in, step_outcome};
 
 use events::{BAD, CRC_ERROR, NO_CAUSE, PAT_ERROR, PMT_ERROR, WRONG_TABLE};
 use watches::FIXED;
 
 // How far the bytes of a section are: more are to come, section_length is out of bounds, or it is whole.
-#[derive(Clone, Copy)]
+#[derive(Clone, Copy, PartialEq, Eq, Debug)]
 pub enum Stage {
     More,
     Bad,
@@ -25,7 +24,7 @@ pub enum Stage {
 
 // What a section step says: unfinished; good, with its table_id_extension; a fault with its cause and its
 // id; or a finished section that says nothing.
-#[derive(Clone, Copy)]
+#[derive(Clone, Copy, PartialEq, Eq, Debug)]
 pub enum Outcome {
     Unfinished,
     Good { extension: u16 },
@@ -34,7 +33,7 @@ pub enum Outcome {
 }
 
 // What laying bytes did: how many were taken, the section's length with them, and how far it is.
-#[derive(Clone, Copy)]
+#[derive(Clone, Copy, PartialEq, Eq, Debug)]
 pub struct Laid {
     pub taken: usize,
     pub length: usize,
@@ -58,27 +57,25 @@ pub fn room_base(room: usize) -> usize
     requires { room < room_count }
     ensures { result ≡ room_base room }
 {
-    if EIT_ROOM < room {
-        return 3072 + 1024 * room;
+    if room > EIT_ROOM {
+        3072 + 1024 * room
+    } else {
+        1024 * room
     }
-    1024 * room
 }
 
 // The greatest section_length in a room.
 pub fn greatest_length(room: usize) -> usize
     ensures { result ≡ greatest_length room }
 {
-    if room == EIT_ROOM {
-        return 4093;
-    }
-    1021
+    if room == EIT_ROOM { 4093 } else { 1021 }
 }
 
 // Whether a section_length is out of bounds.
-fn length_bad(top: usize, id: usize, second: usize, n: usize) -> bool
+fn length_bad(top: usize, id: u8, second: u8, n: usize) -> bool
     ensures { result ≡ bad_numbers top id second n }
 {
-    (top < n) | ((128 <= second) & (n < 9)) | ((id == 0x73) & (n < 4))
+    n > top || (second >= 128 && n < 9) || (id == 0x73 && n < 4)
 }
 
 // section_length in the bytes s, of which there may be too few.
@@ -89,14 +86,15 @@ fn section_length(s: &[u8]) -> usize
 }
 
 // How far the section of the bytes s is.
+#[tactic(auto, unfolding(crate::specs::Section::stage_of))]
 pub fn stage_of(s: &[u8], top: usize) -> Stage
     ensures { result ≡ stage_of top s.now }
 {
-    if s.len() < 3 {
+    let [id, second, _, ..] = s else {
         return Stage::More;
-    }
+    };
     let n = section_length(s);
-    if length_bad(top, octets::byte_at(s, 0), octets::byte_at(s, 1), n) {
+    if length_bad(top, *id, *second, n) {
         return Stage::Bad;
     }
     if s.len() < n + 3 {
@@ -109,39 +107,14 @@ pub fn stage_of(s: &[u8], top: usize) -> Stage
 pub fn is_more(g: Stage) -> bool
     ensures { result ≡ is_more g }
 {
-    match g {
-        Stage::More => true,
-        Stage::Bad => false,
-        Stage::Whole => false,
-    }
+    g == Stage::More
 }
 
-// The bytes that are missing to the three from which section_length is known.
-fn to_third(half: usize) -> usize
-    ensures { result ≡ 3 - half }
-{
-    if half < 3 {
-        return 3 - half;
-    }
-    0
-}
-
+// The lesser of two numbers.
 pub fn least(a: usize, b: usize) -> usize
     ensures { (result ≤ a) × (result ≤ b) × (result < a → result ≡ b) }
 {
-    if a < b {
-        return a;
-    }
-    b
-}
-
-fn stage_by(n: usize, want: usize) -> Stage
-    ensures { result ≡ cond (ltb n want) More Whole }
-{
-    if n < want {
-        return Stage::More;
-    }
-    Stage::Whole
+    a.min(b)
 }
 
 // The bytes s, laid behind the n of the section at base, whose length is known, up to its end.
@@ -152,12 +125,17 @@ fn lay_known(mem: &mut [u8], base: usize, top: usize, n: usize, s: &[u8]) -> Lai
         × (mem.new ≡ sets mem.old (base + n) (take result.taken s.now)) × (result.taken ≤ length s.now) }
 {
     let want = section_length(&mem[base..base + n]) + 3;
-    let k = least(want - n, s.len());
-    octets::copy(mem, base + n, &s[..k]);
+    let taken = s.len().min(want - n);
+    octets::copy(mem, base + n, &s[..taken]);
+    let length = n + taken;
     Laid {
-        taken: k,
-        length: n + k,
-        stage: stage_by(n + k, want),
+        taken,
+        length,
+        stage: if length < want {
+            Stage::More
+        } else {
+            Stage::Whole
+        },
     }
 }
 
@@ -168,7 +146,7 @@ fn lay_at(mem: &mut [u8], base: usize, top: usize, half: usize, s: &[u8]) -> Lai
     ensures { (result ≡ laid_of top (part mem.old base half) half s.now)
         × (mem.new ≡ sets mem.old (base + half) (take result.taken s.now)) × (result.taken ≤ length s.now) }
 {
-    let head = to_third(half);
+    let head = 3usize.saturating_sub(half);
     if s.len() < head {
         octets::copy(mem, base + half, s);
         return Laid {
@@ -184,15 +162,13 @@ fn lay_at(mem: &mut [u8], base: usize, top: usize, half: usize, s: &[u8]) -> Lai
         return Laid {
             taken: head,
             length: n,
-            stage: stage,
+            stage,
         };
     }
     let l = lay_known(mem, base, top, n, &s[head..]);
-    let known = l.stage;
     Laid {
         taken: head + l.taken,
-        length: l.length,
-        stage: known,
+        ..l
     }
 }
 
@@ -214,30 +190,31 @@ fn right_id(room: usize) -> usize
 }
 
 // Whether the CRC_32 of a finished section is judged, and wrong.
+#[tactic(auto, unfolding(crate::specs::Outcomes::crc_wrong))]
 fn crc_wrong(s: &[u8]) -> bool
     ensures { result ≡ crc_wrong s.now }
 {
-    let judged = (128 <= octets::byte_at(s, 1)) | (octets::byte_at(s, 0) == 0x73);
-    if judged {
-        return crc::crc(s) != 0;
-    }
-    false
+    let id = octets::byte_at(s, 0);
+    let second = octets::byte_at(s, 1);
+    (second >= 128 || id == 0x73) && crc::crc(s) != 0
 }
 
-// Whether a section whose CRC_32 is right is good, by its table_id, its second byte, its length and its
-// sixth byte.
-fn is_good(room: usize, id: usize, second: usize, n: usize, sixth: usize) -> bool
-    ensures { result ≡ good_numbers room id second n sixth }
+// Whether a section whose CRC_32 is right is good.
+fn is_good(s: &[u8], room: usize) -> bool
+    ensures { result ≡ is_good room s.now }
 {
-    if id != right_id(room) {
+    let second = octets::byte_at(s, 1);
+    if octets::byte_at(s, 0) != right_id(room) {
         return false;
     }
     if room == TDT_ROOM {
-        return !(128 <= second) & (n == 5);
+        second < 128 && section_length(s) == 5
+    } else {
+        second >= 128 && octets::byte_at(s, 5) % 2 == 1
     }
-    (128 <= second) & (sixth % 2 == 1)
 }
 
+// table_id_extension in the bytes s. There may be too few, and `byte_at` reads 0 past them: from_be_bytes is no plainer.
 fn extension_of(s: &[u8]) -> u16
     ensures { result ≡ extension_of s.now }
 {
@@ -245,39 +222,27 @@ fn extension_of(s: &[u8]) -> u16
 }
 
 // What a whole section says: the first that holds.
+#[tactic(auto, unfolding(crate::specs::Outcomes::whole_outcome))]
 fn judge(s: &[u8], room: usize, pid: u16) -> Outcome
     ensures { result ≡ whole_outcome room pid s.now }
 {
+    let fault = |fault: u16, cause: u8| Outcome::Fault {
+        fault,
+        cause,
+        id: pid,
+    };
     if crc_wrong(s) {
-        return Outcome::Fault {
-            fault: CRC_ERROR,
-            cause: NO_CAUSE,
-            id: pid,
-        };
+        return fault(CRC_ERROR, NO_CAUSE);
     }
     let id = octets::byte_at(s, 0);
     let wrong = id != right_id(room);
-    if (room == PAT_ROOM) & wrong {
-        return Outcome::Fault {
-            fault: PAT_ERROR,
-            cause: WRONG_TABLE,
-            id: pid,
-        };
+    if room == PAT_ROOM && wrong {
+        return fault(PAT_ERROR, WRONG_TABLE);
     }
-    if (FIXED <= room) & wrong {
-        return Outcome::Fault {
-            fault: PMT_ERROR,
-            cause: WRONG_TABLE,
-            id: pid,
-        };
+    if room >= FIXED && wrong {
+        return fault(PMT_ERROR, WRONG_TABLE);
     }
-    if is_good(
-        room,
-        id,
-        octets::byte_at(s, 1),
-        section_length(s),
-        octets::byte_at(s, 5),
-    ) {
+    if is_good(s, room) {
         return Outcome::Good {
             extension: extension_of(s),
         };

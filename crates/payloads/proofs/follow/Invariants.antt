@@ -23,7 +23,7 @@ pub record Going (t r pid : ℕ) (a : Absorbed) (n₀ : ℕ) (list₀ s times₀
 
 abbrev pub invariant-loop-at : goal.invariant-loop-at
 invariant-loop-at l =
-    Going l.time l.room l.pid (came_to l.time l.room l.pid (fed following l.room (begun_job l.initial.memory 0) l.s) (held (core_in l.initial.times l.initial.words) l.initial.memory)) l.n0 l.initial.numbers l.s l.initial.times l.initial.words l.times l.words l.memory l.numbers l.n l.at
+    Going l.a.time l.a.room l.a.pid (came_to l.a.time l.a.room l.a.pid (fed following l.a.room (begun_job l.initial.memory 0) l.s) (held (core_in l.initial.times l.initial.words) l.initial.memory)) l.n0 l.initial.numbers l.s l.initial.times l.initial.words l.times l.words l.memory l.numbers l.n l.at
 
 abbrev pub decreases-loop-at : goal.decreases-loop-at
 decreases-loop-at l = length l.s - l.at

@@ -9,12 +9,12 @@
 --   finished r n c place == the core c with n half-built bytes in the room r, and the next place for an event
 --   Shown a n list₀ list m g == the code shows a: the events of a are laid in the list from the place n on, the core and the memory are those of a
 --   Went               == what the code has left where a half-built section went on: also the bytes in the room, and whether the rest is ignored
---   went c g           == what `resume` hands back, with the core
+--   went c g           == what `resume` hands back, with the core: where it says no length, the rest is ignored
 --   Gone t r pid j c .. == the code shows the sections of a job j acting from the core c; the bytes in the room, and whether the rest is ignored, are
 --                         the job's
 --   Fit c m list       == what a section may act on: section memory whole, at most sixteen listed, half-built sections of the list's places
 --                         within their rooms, places for the least event list
-use Rattle.std.specs.Prelude.{◌≡◌, Bool, true, false, List, ℕ, ◌+◌, ◌≤◌, ◌<◌, length, set}
+use Rattle.std.specs.Prelude.{◌≡◌, Bool, true, false, is_none, unwrap_or, List, ℕ, ◌+◌, ◌≤◌, ◌<◌, length, set}
 use Rattle.events.specs.Capacity.{number_capacity}
 use Rattle.events.specs.Events.{events_laid}
 use Rattle.sections.specs.declared.Stage.{Stage}
@@ -64,7 +64,7 @@ pub record Went : Type 0 where
   pub ignored : Bool
 
 abbrev pub went : Core → Resumed → Went
-went c g = record { core = c; n = g.n; half = g.half; ignored = g.ignored }
+went c g = record { core = c; n = g.n; half = unwrap_or g.half 0; ignored = is_none g.half }
 
 pub record Gone (t r pid : ℕ) (j : Job) (c : Core) (n : ℕ) (list₀ list m : List ℕ) (g : Went) : Type 0 where
   pub shown : Shown (absorbed_all (arrival t r pid) j.finished (held c j.memory)) n list₀ list m (left g.core g.n)

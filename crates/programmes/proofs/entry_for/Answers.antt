@@ -1,25 +1,19 @@
 -- `programmes::entry_for` meets its contract. Assumes nothing.
-use mathlib.Core.Path.{refl, sym, ◌∙◌}
-use native.Mathlib.Omega.{arith}
-use Rattle.programmes.proofs.Searches.{entry_here, entry_on, entry_none}
+use mathlib.Core.Path.{ap, ◌∙◌}
+use borrow.Author.Tests.{tests}
+use Rattle.std.proofs.Common.{rules, Option, unwrap_or}
+use Rattle.std.proofs.lemmas.Iterator.{YieldsList-from_slice}
+use Rattle.std.proofs.lemmas.Iterator.Search.{find_from_yields_List}
+use Rattle.watches.specs.declared.Entry.{Entry}
+use Rattle.programmes.specs.Listing.{is_pair}
+use Rattle.programmes.proofs.Searches.{entry_found}
 use Rattle.programmes.proofs.entry_for.Goals as goal
-
-pub loop-i-init : goal.loop-i-init
-loop-i-init c = (omega arith, refl)
-
-pub returns-then-is_pair : goal.returns-then-is_pair
-returns-then-is_pair c =
-    let loop = c.loop-i in
-    let args = c.args in
-    sym (loop.invariant.1 ∙ entry_here args.old args.count loop.i (omega arith) _ _ _ c.loop-i-test.true (sym c.is_pair.ensures ∙ c.if-is_pair.true))
-
-pub loop-i-preserved : goal.loop-i-preserved
-loop-i-preserved c =
-    let loop = c.loop-i in
-    let args = c.args in
-    (omega arith, loop.invariant.1 ∙ entry_on args.old args.count loop.i (omega arith) _ _ _ c.loop-i-test.true (sym c.is_pair.ensures ∙ c.if-is_pair.false))
 
 pub returns : goal.returns
 returns c =
     let args = c.args in
-    sym (c.loop-i.invariant.1 ∙ entry_none args.old args.count c.loop-i.i (omega arith) _ _ _ c.loop-i-test.false)
+    let found = find_from_yields_List (is_pair args.number args.pid) _ _ _ c.find.ensures.ran
+    (YieldsList-from_slice args.old.now cc) (λ x b q k. search (rules, tests)) in
+    c.unwrap_or.ensures
+    ∙ ap (λ (o : Option Entry). unwrap_or o (record { number = args.number; pid = args.pid; since = args.t })) (c.copied.ensures ∙ found)
+    ∙ entry_found args.t args.number args.pid args.old.now

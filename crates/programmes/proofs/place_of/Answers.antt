@@ -1,25 +1,17 @@
 -- `programmes::place_of` meets its contract. Assumes nothing.
-use native.Mathlib.Omega.{arith}
-use borrow.Author.Tests.{eq-eqb, ne_eqb}
-use Rattle.programmes.proofs.Searches.{place_here, place_on, place_none}
+use mathlib.Core.Path.{◌∙◌}
+use lib.Dec.{eqb}
+use borrow.Author.Tests.{tests}
+use Rattle.std.proofs.Common.{rules}
+use Rattle.std.proofs.lemmas.Iterator.{YieldsList-from_slice}
+use Rattle.std.proofs.lemmas.Iterator.Search.{position_from_yields_List}
+use Rattle.watches.specs.declared.Entry.{Entry}
+use Rattle.programmes.proofs.Searches.{place_found}
 use Rattle.programmes.proofs.place_of.Goals as goal
-
-pub loop-i-init : goal.loop-i-init
-loop-i-init c = (omega arith, omega arith)
-
-pub returns-then-e-pid : goal.returns-then-e-pid
-returns-then-e-pid c =
-    let loop = c.loop-i in
-    let args = c.args in
-    omega (arith, loop.invariant.1, place_here args.entries args.count loop.i (omega arith) args.pid c.loop-i-test.true (eq-eqb _ _ c.if-e-pid.true))
-
-pub loop-i-preserved : goal.loop-i-preserved
-loop-i-preserved c =
-    let loop = c.loop-i in
-    let args = c.args in
-    (omega arith, omega (arith, loop.invariant.1, place_on args.entries args.count loop.i (omega arith) args.pid c.loop-i-test.true (ne_eqb _ _ c.if-e-pid.false)))
 
 pub returns : goal.returns
 returns c =
     let args = c.args in
-    omega (arith, c.loop-i.invariant.0, c.loop-i.invariant.1, c.loop-i-test.false, place_none args.entries args.count c.loop-i.i (omega arith) args.pid c.loop-i-test.false)
+    position_from_yields_List (λ (e : Entry). eqb e.pid args.pid) _ _ _ c.position.ensures.ran
+    (YieldsList-from_slice args.entries.now cc) (λ x b q k. search (rules, tests))
+    ∙ place_found args.pid args.entries.now

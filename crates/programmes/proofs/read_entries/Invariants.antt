@@ -1,14 +1,10 @@
 use mathlib.Core.Path.{◌≡◌}
 use mathlib.Core.List.{[]}
-use Prim.Native.Nat.{◌-◌, ◌*◌, ◌/◌, ◌≤◌}
-use lib.ListN.{length, take, drop}
+use Prim.Native.Nat.{◌*◌, ◌≤◌}
+use lib.ListN.{drop}
 use Rattle.programmes.specs.Listing.{none_listed, read_on}
 use Rattle.programmes.specs.inner.Reading.{seen_to}
 use Rattle.programmes.proofs.read_entries.Given as goal
 
 abbrev pub invariant-loop-k : goal.invariant-loop-k
-invariant-loop-k l =
-    (l.k ≤ l.whole) × (l.whole ≡ length l.e / 4) × (l.l.count ≤ 16) × (read_on l.t (take l.old_count l.old) [] none_listed l.e ≡ read_on l.t (take l.old_count l.old) (seen_to l.e l.k) l.l (drop (4 * l.k) l.e))
-
-abbrev pub decreases-loop-k : goal.decreases-loop-k
-decreases-loop-k l = l.whole - l.k
+invariant-loop-k l = (l.l.count ≤ 16) × (read_on l.t l.old [] none_listed l.e ≡ read_on l.t l.old (seen_to l.e l.k) l.l (drop (4 * l.k) l.e))

@@ -10,13 +10,11 @@ use Rattle.programmes.proofs.read_list.Goals as goal
 pub returns-then-s-lt12 : goal.returns-then-s-lt12
 unfolding list_of part
 returns-then-s-lt12 c =
-    let args = c.args in
-    let none : length args.s.now - 12 ≡ 0 = omega (arith, c.if-s-lt12.true) in
+    let none : length c.args.s.now - 12 ≡ 0 = omega (arith, c.if-s-lt12.true) in
     rw none c.read_entries.ensures
 
-pub returns : goal.returns
+pub returns-else-s-lt12 : goal.returns-else-s-lt12
 unfolding list_of part
-returns c =
-    let args = c.args in
-    let all : length args.s.now - 4 - 8 ≡ length args.s.now - 12 = omega arith in
-    (rw all at c.read_entries-2.ensures.0, c.read_entries-2.ensures.1)
+returns-else-s-lt12 c =
+    let all : length c.args.s.now - 4 - 8 ≡ length c.args.s.now - 12 = omega arith in
+    rw all at c.read_entries-else-s-lt12.ensures

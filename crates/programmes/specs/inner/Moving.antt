@@ -1,15 +1,19 @@
 -- What the functions that move half-built bytes are given. old and new are the two lists, each of its listed entries, ns the half-built
 -- lengths under the new one.
 --
+--   listed_place q es  == the first place with the PID q, or None where the PID is not listed
 --   none_half ns       == of these half-built lengths each is 0
 --   section_at old new ns m k == the half-built bytes of the place k, as they stood in the memory m
 --   PlacedAt old new ns k == the place k is listed, its PID was listed before, and its bytes fit into its room
 --   Placed old new ns == each place with half-built bytes is so
 --   Stayed old new ns n == those of the first n places stand there already
-use Rattle.std.specs.Prelude.{◌≡◌, Bool, true, ◌&&◌, List, [], ◌∷◌, ℕ, ◌≤◌, ◌<◌, eqb, length}
+use Rattle.std.specs.Prelude.{◌≡◌, Bool, true, cond, ◌&&◌, Option, Some, None, List, [], ◌∷◌, ℕ, ◌≤◌, ◌<◌, eqb, length}
 use Rattle.watches.specs.declared.Entry.{Entry}
 use Rattle.sections.specs.Rooms.{room_of_place, half_built}
-use Rattle.programmes.specs.Places.{place_of, pid_at, half_at, stood_in}
+use Rattle.programmes.specs.Places.{place_of, is_listed, pid_at, half_at, stood_in}
+
+abbrev pub listed_place : ℕ → List Entry → Option ℕ
+listed_place q es = cond (is_listed q es) (Some (place_of q es)) None
 
 unfoldable pub none_half : List ℕ → Bool
 none_half [] = true

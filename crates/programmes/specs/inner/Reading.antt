@@ -4,12 +4,12 @@
 --   number_at e k == the programme number of the entry k
 --   pid_in e k    == its PID
 --   seen_to e k   == the numbers of the entries before it, the nearest first
---   bad_where b l   == the list, made bad where b says so
---   with_addition r l    == the list with what one entry adds
-use Rattle.std.specs.Prelude.{ℕ, zero, suc, ◌+◌, ◌*◌, Bool, cond, ◌||◌, List, [], ◌∷◌, get_or}
+--   with_addition r l == the list with what one entry adds
+use Rattle.std.specs.Prelude.{ℕ, zero, suc, ◌+◌, ◌*◌, List, [], ◌∷◌, get_or}
 use Rattle.programmes.specs.declared.Listed.{Listed}
 use Rattle.programmes.specs.declared.Addition.{Addition}
-use Rattle.programmes.specs.Listing.{number_of, entry_pid, listed_with}
+use Rattle.programmes.specs.declared.Addition.TheVariants.{Nothing, Mark, One}
+use Rattle.programmes.specs.Listing.{number_of, entry_pid, made_bad, listed_with}
 
 abbrev pub number_at : List ℕ → ℕ → ℕ
 number_at e k = number_of (get_or e (4 * k) 0) (get_or e (4 * k + 1) 0)
@@ -21,8 +21,7 @@ unfoldable pub seen_to : List ℕ → ℕ → List ℕ
 seen_to e zero = []
 seen_to e (suc k) = number_at e k ∷ seen_to e k
 
-abbrev pub bad_where : Bool → Listed → Listed
-bad_where b l = record { count = l.count; bad = l.bad || b; entries = l.entries }
-
 abbrev pub with_addition : Addition → Listed → Listed
-with_addition r l = cond r.listed (listed_with r.entry (bad_where r.bad l)) (bad_where r.bad l)
+with_addition Nothing l = l
+with_addition Mark l = made_bad l
+with_addition (One e) l = listed_with e l

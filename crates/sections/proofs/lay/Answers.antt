@@ -4,17 +4,10 @@ use Rattle.sections.proofs.Stages.{room_fits, half_short}
 use native.Mathlib.Omega.{arith}
 use Rattle.sections.proofs.lay.Goals as goal
 
-pub lay_at-requires : goal.lay_at-requires
-lay_at-requires c =
+pub lay_at-requires-clause-mem_len : goal.lay_at-requires-clause-mem_len
+lay_at-requires-clause-mem_len c =
     let args = c.args in
     let pre = c.requires in
     let fits = room_fits args.room pre.mem_len.1 in
-    rw (c.room_base.ensures, c.greatest_length.ensures) (record {
-      mem_len = (pre.mem_len.0, fits, half_short args.mem.now (room_base args.room) (greatest_length args.room) args.half (omega (arith, pre.mem_len.0, fits)) pre.half_value);
-      half_value = pre.half_value;
-    })
-
-pub returns : goal.returns
-returns c =
-    let room-base = c.room_base in
-    rw (room-base.ensures, c.greatest_length.ensures) at c.lay_at.ensures
+    rw (c.room_base.ensures, c.greatest_length.ensures)
+    (pre.mem_len.0, fits, half_short args.mem.now (room_base args.room) (greatest_length args.room) args.half (omega (arith, pre.mem_len.0, fits)) pre.half_value)

@@ -1,67 +1,31 @@
 -- `payloads::arrivals/act` meets its contract. Assumes nothing.
-use native.Mathlib.Omega.{arith}
 use mathlib.Core.Path.{◌≡◌, refl, sym, ap, ◌∙◌}
-use mathlib.Core.Bool.{Bool, true, false, cond}
-use mathlib.Core.List.{List, [], ◌∷◌}
-use Prim.Native.Nat.{ℕ, ◌≤◌}
-use lib.ListN.{length}
-use Rattle.events.specs.declared.Event.{Event}
-use Rattle.events.specs.Faults.{pat_error, bad}
-use Rattle.events.specs.Events.{event_at}
+use mathlib.Core.Logic.{◌⊎◌, inl, inr}
+use mathlib.Core.List.{List, []}
+use Prim.Native.Nat.{ℕ}
+use native.Mathlib.Nat.{add-zero}
+use Rattle.lists.proofs.Laying.{laid_none}
+use Rattle.events.specs.Events.{numbers_of}
+use Rattle.events.specs.Capacity.{record_width}
 use Rattle.sections.specs.declared.Outcome.{Outcome}
-use Rattle.sections.specs.declared.Outcome.TheVariants.{Unfinished, Good, Fault, Silent}
+use Rattle.sections.specs.declared.Outcome.TheVariants.{Unfinished, Silent}
 use Rattle.sections.specs.Rooms.{half_built}
-use Rattle.sections.specs.Outcomes.{events_of}
 use Rattle.calls.specs.Cores.{Held}
 use Rattle.calls.specs.Steps.{arrival, absorbed_by}
 use Rattle.payloads.specs.inner.Taking.{held}
-use Rattle.payloads.specs.inner.Parts.{end_acts}
 use Rattle.arrays.specs.Lent.{core_in}
-use Rattle.arrays.proofs.Kept.{moved_none}
 use Rattle.payloads.proofs.arrivals.act.Goals as goal
 
--- anything but a good section leaves list and watches as they are
-not_good : (t r pid : ℕ) (x : List ℕ) (h : Held) (o : Outcome) → ((n : ℕ) → o ≡ Good n → ⊥) → absorbed_by o (arrival t r pid) x h ≡ record { held = h; events = events_of t o }
-not_good t r pid x h Unfinished k = refl
-not_good t r pid x h (Good n) k = absurd (k n refl)
-not_good t r pid x h (Fault f c i) k = refl
-not_good t r pid x h Silent k = refl
+-- an outcome that says nothing leaves all as it is
+silent : (t r pid : ℕ) (x : List ℕ) (h : Held) (o : Outcome) → (o ≡ Unfinished) ⊎ (o ≡ Silent) → absorbed_by o (arrival t r pid) x h ≡ record { held = h; events = [] }
+silent t r pid x h o (inl e) = ap (λ z. absorbed_by z (arrival t r pid) x h) e
+silent t r pid x h o (inr e) = ap (λ z. absorbed_by z (arrival t r pid) x h) e
 
-events_most : (t : ℕ) (o : Outcome) → length (events_of t o) ≤ 1
-events_most t Unfinished = omega arith
-events_most t (Good n) = omega arith
-events_most t (Fault f c i) = omega arith
-events_most t Silent = omega arith
-
-list_most : (e : Event) (b : Bool) → length (cond b (e ∷ []) []) ≤ 1
-list_most e true = omega arith
-list_most e false = omega arith
-
-pub returns-in_default : goal.returns-in_default
-returns-in_default c =
-    let start = c in
-    let args = start.args in
-    let core = core_in args.times.now args.words.now in
-    let o = c.outcome_in-o in
-    let put = c.put_outcome in
-    let x = half_built args.memory.now args.room args.size in
-    let e : end_acts args.time args.room args.pid args.stage x (held core args.memory.now) ≡ record { held = held core args.memory.now; events = events_of args.time o.result }
-    = ap (λ z. absorbed_by z (arrival args.time args.room args.pid) x (held core args.memory.now)) (sym o.ensures) ∙ not_good args.time args.room args.pid x (held core args.memory.now) o.result c.in_default.not-Good in
-    record { shown = rw e (record { core = refl; memory = refl; next = put.ensures.0; laid = put.ensures.1 }); moved = (moved_none start.requires.sized.0, start.requires.sized.1.listed, omega (arith, put.ensures.0, events_most args.time o.result)) }
-
-pub arrive-bad-requires : goal.arrive-bad-requires
-arrive-bad-requires c =
-    let start = c in
-    let fit = start.requires.sized.1 in
-    record { sized = (start.requires.sized.0, fit.whole, fit.listed, omega arith, start.requires.room_lt_room_count.0); by_index = fit.halves }
-
-pub returns : goal.returns
-returns c =
-    let start = c in
-    let args = start.args in
-    let o = c.outcome_in-o in
-    let arrive = c.arrive-bad in
-    let put = c.put_list in
-    let good = c.in-Good.is in
-    let e = sym o.ensures ∙ good in
-    record { shown = rw e (record { core = arrive.ensures.words_after.0; memory = arrive.ensures.words_after.1; next = rw arrive.ensures.words_after.2 at put.ensures.0; laid = rw arrive.ensures.words_after.2 at put.ensures.1 }); moved = (arrive.ensures.moved.0, arrive.ensures.moved.1, omega (arith, put.ensures.0, list_most (event_at args.time pat_error bad args.pid) arrive.result)) }
+pub returns-in-Unfinished-clause-shown : goal.returns-in-Unfinished-clause-shown
+returns-in-Unfinished-clause-shown c =
+    let args = c.args in
+    let a = args.a in
+    let h = held (core_in args.times.now args.words.now) args.memory.now in
+    let x = half_built args.memory.now a.room args.size in
+    let e = ap (λ o. absorbed_by o (arrival a.time a.room a.pid) x h) (sym c.outcome_in.ensures) ∙ silent a.time a.room a.pid x h c.outcome_in.result c.in-Unfinished.is in
+    rw e (record { core = refl; memory = refl; next = sym (add-zero args.n); laid = sym (laid_none numbers_of record_width args.numbers.now args.n) })

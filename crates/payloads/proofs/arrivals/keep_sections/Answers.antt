@@ -5,7 +5,7 @@ use mathlib.Core.Path.{◌≡◌, sym, ap, ◌∙◌}
 use mathlib.Core.Bool.{true}
 use mathlib.Core.List.{List}
 use Prim.Native.Nat.{ℕ, ◌≤◌}
-use lib.ListN.{length, take, length-take}
+use lib.ListN.{length}
 use Rattle.lists.specs.Places.{part}
 use Rattle.lists.proofs.Places.{part_length}
 use Rattle.sections.specs.Rooms.{room_count}
@@ -18,24 +18,19 @@ use Rattle.payloads.proofs.arrivals.keep_sections.Goals as goal
 
 pub returns-then-none_listed : goal.returns-then-none_listed
 returns-then-none_listed c =
-    let start = c in
-    let a = start.args in
+    let a = c.args in
     let ns = c.halves_in-half.ensures in
-    let old = take a.old_count a.old in
-    let new = take a.new_count a.new in
+    let old = a.old.now in
+    let new = a.new.now in
     let halves = halves_in a.words.now in
     let none : none_half (part halves 5 16) ≡ true = ap (λ (l : List ℕ). none_half (part l 5 16)) (sym ns) ∙ sym c.none_listed.ensures ∙ c.if-none_listed.true in
-    let most : length old ≤ 16 = omega (arith, length-take a.old_count a.old) in
+    let most : length old ≤ 16 = omega arith in
     let long : length halves ≡ room_count = part_length a.words.now halves_at room_count (omega arith) in
     ((λ times. rw (halves_same old new halves most long none)), sym (bytes_same old new halves most long none a.memory.now), search rules)
 
-pub move_sections-moved-requires : goal.move_sections-moved-requires
-move_sections-moved-requires c = record { mem_len = (search rules, search rules, search rules); by_index = rw c.halves_in-half.ensures c.requires.by_index }
-
 pub returns : goal.returns
 returns c =
-    let start = c in
-    let a = start.args in
+    let a = c.args in
     let ns = c.halves_in-half.ensures in
     let moved = c.move_sections-moved in
     let laid = c.lay_halves.ensures in (

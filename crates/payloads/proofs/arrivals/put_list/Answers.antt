@@ -4,8 +4,5 @@ use native.Mathlib.Nat.{add-zero}
 use Rattle.lists.proofs.Laying.{laid_none}
 use Rattle.payloads.proofs.arrivals.put_list.Goals as goal
 
-pub returns-then-bad : goal.returns-then-bad
-returns-then-bad c = rw c.if-bad.true c.put.ensures
-
-pub returns : goal.returns
-returns c = rw c.if-bad.false (sym (add-zero _), sym (laid_none _ _ _ _))
+pub returns-then-not-bad : goal.returns-then-not-bad
+returns-then-not-bad c = rw c.if-not-bad.true (sym (add-zero _), sym (laid_none _ _ _ _))

@@ -1,9 +1,9 @@
 -- `payloads::arrivals/relist` meets its contract. Assumes nothing.
-use native.Mathlib.Omega.{arith}
 use mathlib.Core.Path.{◌≡◌, ap, ap₂, ◌∙◌}
 use mathlib.Core.List.{List}
 use Prim.Native.Nat.{ℕ}
 use lib.ListN.{take}
+use Rattle.lists.specs.Places.{part}
 use Rattle.watches.specs.declared.Entry.{Entry}
 use Rattle.sections.specs.Rooms.{pat_room, half_built}
 use Rattle.programmes.specs.declared.Listed.{Listed}
@@ -13,29 +13,22 @@ use Rattle.calls.specs.declared.Core.{Core}
 use Rattle.calls.specs.Cores.{listed, with_half, with_list}
 use Rattle.calls.specs.Steps.{arrived_table, new_list, listed_by}
 use Rattle.arrays.specs.Lent.{core_in}
-use Rattle.arrays.proofs.Kept.{latest_then, sync_then}
 use Rattle.payloads.proofs.arrivals.relist.Goals as goal
 
-pub returns : goal.returns
-returns c =
-    let start = c in
-    let a = start.args in
+pub returns-clause-words_after : goal.returns-clause-words_after
+unfolding part
+returns-clause-words_after c =
+    let a = c.args in
     let times = a.times.now in
-    let words = a.words.now in
-    let core = core_in times words in
+    let core = core_in times a.words.now in
+    let l = c.read_list-l.result in
+    let old = take c.count_in.result c.entries_in-entries.result in
+    let eo : old ≡ listed core = ap₂ (λ (n : ℕ) (es : List Entry). take n es) c.count_in.ensures c.entries_in-entries.ensures in
     let s = half_built a.memory.now pat_room a.size in
-    let l = c.list_in-l.result in
-    let old = take c.count_in-old_count.result c.entries_in-old.result in
-    let eo : old ≡ listed core = ap₂ (λ (n : ℕ) (es : List Entry). take n es) c.count_in-old_count.ensures c.entries_in-old.ensures in
-    let el : l ≡ new_list a.time s core = c.list_in-l.ensures.0 ∙ ap (λ (o : List Entry). list_of a.time o s) eo in
+    let el : l ≡ new_list a.time s core = c.read_list-l.ensures.0 ∙ ap (λ (o : List Entry). list_of a.time o s) eo in
     let keep = c.keep_sections.ensures in
-    let gap = c.end_gap.ensures in
-    let laid = c.lay_list.ensures in
-    let moved : Listed → List Entry → Core = λ k o. with_list k.count k.entries (arrived_table a.time pat_room (with_half (moved_halves o (listed_by k) core.half) core)) in record {
-      words_after = (
-        laid.0 ∙ ap (with_list l.count l.entries) (gap.0 _ ∙ ap (arrived_table a.time pat_room) (keep.0 times)) ∙ ap₂ moved el eo,
-        keep.1 ∙ ap₂ (λ (k : Listed) (o : List Entry). moved_bytes o (listed_by k) core.half a.memory.now) el eo,
-        ap (λ (k : Listed). k.bad) el,
-      );
-      moved = (record { times = latest_then gap.1 laid.1.times; words = sync_then keep.2 laid.1.words }, omega (arith, ap (λ (k : Core). k.count) laid.0, c.list_in-l.ensures.1));
-    }
+    let moved : Listed → List Entry → Core = λ k o. with_list k.count k.entries (arrived_table a.time pat_room (with_half (moved_halves o (listed_by k) core.half) core)) in (
+      c.lay_list.ensures.0 ∙ ap (with_list l.count l.entries) (c.end_gap.ensures.0 _ ∙ ap (arrived_table a.time pat_room) (keep.0 times)) ∙ ap₂ moved el eo,
+      keep.1 ∙ ap₂ (λ (k : Listed) (o : List Entry). moved_bytes o (listed_by k) core.half a.memory.now) el eo,
+      ap (λ (k : Listed). k.bad) el,
+    )
