@@ -130,7 +130,7 @@ module _ (t : ℕ) (p : List ℕ) (r : ℕ) (keep : Bool) (cs : List ℕ) (h : H
   abbrev left : Held
   left = cond keep h (dropped_room r h)
 
-  pub left_out : (take : Bool) → take ≡ false → quiet left cs ≡ coursed t p r keep take cs h
+  left_out : (take : Bool) → take ≡ false → quiet left cs ≡ coursed t p r keep take cs h
   left_out take e = rw e
 
   pub taken_in : (take : Bool) → take ≡ true
@@ -138,10 +138,19 @@ module _ (t : ℕ) (p : List ℕ) (r : ℕ) (keep : Bool) (cs : List ℕ) (h : H
   taken_in take e = rw e
 
 -- the core after step 4
-pub kept_held : (b : Bool) (c : Core) (m : List ℕ) (r : ℕ)
+kept_held : (b : Bool) (c : Core) (m : List ℕ) (r : ℕ)
     → held (cond b c (with_half (set c.half r 0) c)) m ≡ cond b (held c m) (dropped_room r (held c m))
 kept_held true c m r = refl
 kept_held false c m r = refl
+
+pub kept_as : (b : Bool) (c d : Core) (m : List ℕ) (r : ℕ) → d ≡ cond b c (with_half (set c.half r 0) c) → held d m ≡ cond b (held c m) (dropped_room r (held c m))
+kept_as b c d m r e = ap (λ k. held k m) e ∙ kept_held b c m r
+
+-- where the payload is not taken, that is all
+pub course_left : (t : ℕ) (p : List ℕ) (r : ℕ) (keep take : Bool) (cs : List ℕ) (c d : Core) (m list : List ℕ) (n : ℕ)
+    → d ≡ cond keep c (with_half (set c.half r 0) c) → take ≡ false → Done (coursed t p r keep take cs (held c m)) 62 d cs m list n list n
+course_left t p r keep take cs c d m list n kept e =
+    done_as (left_out t p r keep cs (held c m) take e) (done_from (kept_as keep c d m r kept) (done_quiet (held d m) cs 62 list n))
 
 -- STEP 4, where its verdict is j
 abbrev pub continuity_events : ℕ → ℕ → Bool → List Event
