@@ -9,7 +9,7 @@ use lib.ListN.{length, set}
 use lib.Seq.{set-set}
 use Rattle.lists.specs.Laying.{laid}
 use Rattle.lists.proofs.Tests.{cond_either}
-use Rattle.lists.proofs.Laying.{laid_turn}
+use Rattle.lists.proofs.Laying.{laid_none, laid_turn}
 use Rattle.events.specs.declared.Event.{Event}
 use Rattle.events.specs.Events.{numbers_of, events_laid}
 use Rattle.events.specs.Faults.{transport_error, continuity_error}
@@ -178,7 +178,7 @@ module _ (t : ℕ) (p cs : List ℕ) (c : Core) (j : Counted) (verdict : j ≡ c
   counter_clear e = ap (also (continuity_events t (pid_of p) j.event)) (sym (clear_ends t p counter_table c m j.take j.keep e)) ∙ ap from verdict
 
 -- STEP 1
-pub lost_is : (right : Bool) (c : Core) → c.lost ≡ true → synced_of right c ≡ while_lost right c
+lost_is : (right : Bool) (c : Core) → c.lost ≡ true → synced_of right c ≡ while_lost right c
 lost_is right c e = ap (λ b. cond b (while_lost right c) (in_sync right c)) e
 
 pub in_sync_is : (right : Bool) (c : Core) → c.lost ≡ false → synced_of right c ≡ in_sync right c
@@ -190,9 +190,16 @@ caught_as {t = t} {pid = pid} {c = c} {on = on} {before = before} {n = n} {after
     subst (λ y. CaughtAs y t pid c on before n after r) e d
 
 -- while sync is lost there are no events
-pub lost_silent : (right : Bool) (c : Core) → (while_lost right c).faults ≡ []
+lost_silent : (right : Bool) (c : Core) → (while_lost right c).faults ≡ []
 lost_silent true c = cond_either (λ (y : Synced). y.faults ≡ []) (eqb c.run 4) _ _ refl refl
 lost_silent false c = refl
+
+pub lost_caught : (right : Bool) (c d : Core) (on : Bool) (t pid : ℕ) (list : List ℕ) (n : ℕ) → c.lost ≡ true → d ≡ (while_lost right c).core → on ≡ (while_lost right c).further
+    → CaughtAs (synced_of right c) t pid d on list n list n
+lost_caught right c d on t pid list n lost core further =
+    let silent = lost_silent right c in
+    caught_as (sym (lost_is right c lost))
+    (record { core = core; further = further; next = rw silent (omega arith); laid = rw silent (sym (laid_none _ _ _ _)); few = omega arith })
 
 module _ (t : ℕ) (p cs : List ℕ) (c : Core) (m : List ℕ) (d : Core) (on : Bool) (before : List ℕ) (n : ℕ) (mid : List ℕ) (i : ℕ)
     (caught : CaughtAs (synced_of (right_sync p) c) t (pid_of p) d on before n mid i) where

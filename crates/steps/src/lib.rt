@@ -29,14 +29,8 @@ use events::{CONTINUITY_ERROR, NO_CAUSE, PAT_ERROR, PMT_ERROR, SCRAMBLED, TRANSP
 use header::{Header, SYNC_BYTE};
 use programmes::NULL_PID;
 use sections::MEMORY;
+use std::ops::ControlFlow;
 use watches::{FIXED, PAT_PID};
-
-// What step 1 says: the next place for an event, and whether the packet is judged further.
-#[derive(Clone, Copy)]
-struct Caught {
-    n: usize,
-    further: bool,
-}
 
 // The place of a PID in the table of fixed watches, if it is there.
 fn fixed_room(pid: u16) -> Option<usize>
@@ -253,11 +247,10 @@ pub fn judge_packet(
     ensures latest_kept { LatestKept times.old times.new × SyncTold words.new }
 {
     let right = packet[0] == SYNC_BYTE;
-    let y = sync::judge_sync(words, right, time, h.pid, numbers, n);
-    if !y.further {
-        return y.n;
+    match sync::judge_sync(words, right, time, h.pid, numbers, n) {
+        ControlFlow::Continue(next) => judge_header(
+            times, words, time, packet, h, byte, counters, memory, numbers, next,
+        ),
+        ControlFlow::Break(next) => next,
     }
-    judge_header(
-        times, words, time, packet, h, byte, counters, memory, numbers, y.n,
-    )
 }
