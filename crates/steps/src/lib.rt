@@ -32,6 +32,15 @@ use sections::MEMORY;
 use std::ops::ControlFlow;
 use watches::{FIXED, PAT_PID};
 
+// A packet at a time, its header, and the table byte of its PID.
+#[derive(Clone, Copy)]
+struct Seen<'a> {
+    time: u64,
+    packet: &'a [u8],
+    header: Header,
+    byte: u8,
+}
+
 // The place of a PID in the table of fixed watches, if it is there.
 fn fixed_room(pid: u16) -> Option<usize>
     ensures { result ≡ within fixed_count (fixed_room pid fixed_tables) }
@@ -125,19 +134,17 @@ fn tell_continuity(event: bool, time: u64, pid: u16, numbers: &mut [u64], n: usi
 fn take_course(
     times: &mut [u64],
     words: &mut [u16],
-    time: u64,
-    packet: &[u8],
-    h: Header,
+    seen: Seen,
     room: Option<usize>,
     j: Counted,
     memory: &mut [u8; MEMORY],
     numbers: &mut [u64],
     n: usize,
 ) -> usize
-    requires sized { Sized times.old words.old × Ready (core_in times.old words.old) memory.old packet.now numbers.old n 62 }
-    requires h_value { (h ≡ header_of packet.now) × ForSome room (λ r. r < room_count) }
+    requires sized { Sized times.old words.old × Ready (core_in times.old words.old) memory.old seen.packet.now numbers.old n 62 }
+    requires h_value { (seen.header ≡ header_of seen.packet.now) × ForSome room (λ r. r < room_count) }
     ensures by_index { (cs : List ℕ) (r : ℕ) → room ≡ within room_count r
-        → Done (coursed time packet.now r j.keep (j.take && ltb r room_count) cs (held (core_in times.old words.old) memory.old)) 62
+        → Done (coursed seen.entry.time seen.entry.packet.now r j.keep (j.take && ltb r room_count) cs (held (core_in times.old words.old) memory.old)) 62
         (core_in times.new words.new) cs memory.new numbers.old n numbers.new result }
     ensures moved { Moved times.old words.old times.new words.new }
 {
@@ -148,7 +155,7 @@ fn take_course(
     let Some(room) = room else {
         return n;
     };
-    let at = h.payload;
+    let h = seen.header;
     payloads::take_payload(
         times,
         words,
@@ -156,8 +163,8 @@ fn take_course(
         room,
         h.pid,
         h.start,
-        &packet[at..],
-        time,
+        &seen.packet[h.payload..],
+        seen.time,
         numbers,
         n,
     )
@@ -167,64 +174,56 @@ fn take_course(
 fn judge_counter(
     times: &mut [u64],
     words: &mut [u16],
-    time: u64,
-    packet: &[u8],
-    h: Header,
-    byte: u8,
+    seen: Seen,
     counters: &mut [u8],
     memory: &mut [u8; MEMORY],
     numbers: &mut [u64],
     n: usize,
 ) -> usize
-    requires sized { Sized times.old words.old × Ready (core_in times.old words.old) memory.old packet.now numbers.old n 63 }
-    requires read_off { ReadOff packet.now counters.old h byte × (h.pid < length counters.old) }
-    ensures done { Done (step4 time packet.now counters.old (held (core_in times.old words.old) memory.old)) 63
+    requires sized { Sized times.old words.old × Ready (core_in times.old words.old) memory.old seen.packet.now numbers.old n 63 }
+    requires read_off { ReadOff seen.packet.now counters.old seen.header seen.byte × (seen.header.pid < length counters.old) }
+    ensures done { Done (step4 seen.entry.time seen.entry.packet.now counters.old (held (core_in times.old words.old) memory.old)) 63
         (core_in times.new words.new) counters.new memory.new numbers.old n numbers.new result }
     ensures moved { Moved times.old words.old times.new words.new }
 {
-    let pid = h.pid as usize;
-    let j = continuity::judge(byte, h);
+    let h = seen.header;
+    let pid = usize::from(h.pid);
+    let j = continuity::judge(seen.byte, h);
     counters[pid] = j.byte;
     let room = room_for(words, h.pid);
-    let next = tell_continuity(j.event, time, h.pid, numbers, n);
+    let next = tell_continuity(j.event, seen.time, h.pid, numbers, n);
     if h.scrambled {
-        let last = judge_scrambled(words, time, h.pid, numbers, next);
+        let last = judge_scrambled(words, seen.time, h.pid, numbers, next);
         drop_room(words, room);
         return last;
     }
-    take_course(
-        times, words, time, packet, h, room, j, memory, numbers, next,
-    )
+    take_course(times, words, seen, room, j, memory, numbers, next)
 }
 
 // Steps 2 and 3, and what follows them.
 fn judge_header(
     times: &mut [u64],
     words: &mut [u16],
-    time: u64,
-    packet: &[u8],
-    h: Header,
-    byte: u8,
+    seen: Seen,
     counters: &mut [u8],
     memory: &mut [u8; MEMORY],
     numbers: &mut [u64],
     n: usize,
 ) -> usize
-    requires sized { Sized times.old words.old × Ready (core_in times.old words.old) memory.old packet.now numbers.old n 63 }
-    requires read_off { ReadOff packet.now counters.old h byte × (h.pid < length counters.old) }
-    ensures done { Done (step2 time packet.now counters.old (held (core_in times.old words.old) memory.old)) 63
+    requires sized { Sized times.old words.old × Ready (core_in times.old words.old) memory.old seen.packet.now numbers.old n 63 }
+    requires read_off { ReadOff seen.packet.now counters.old seen.header seen.byte × (seen.header.pid < length counters.old) }
+    ensures done { Done (step2 seen.entry.time seen.entry.packet.now counters.old (held (core_in times.old words.old) memory.old)) 63
         (core_in times.new words.new) counters.new memory.new numbers.old n numbers.new result }
     ensures moved { Moved times.old words.old times.new words.new }
 {
+    let h = seen.header;
     if h.error {
-        return events::put(numbers, n, time, TRANSPORT_ERROR, NO_CAUSE, h.pid);
+        return events::put(numbers, n, seen.time, TRANSPORT_ERROR, NO_CAUSE, h.pid);
     }
     if (h.pid == NULL_PID) | (h.control == 0) {
         return n;
     }
-    judge_counter(
-        times, words, time, packet, h, byte, counters, memory, numbers, n,
-    )
+    judge_counter(times, words, seen, counters, memory, numbers, n)
 }
 
 // A packet at a time, its header and the table byte of its PID: steps 1 to 5. Its events are laid from the place n on.
@@ -248,9 +247,15 @@ pub fn judge_packet(
 {
     let right = packet[0] == SYNC_BYTE;
     match sync::judge_sync(words, right, time, h.pid, numbers, n) {
-        ControlFlow::Continue(next) => judge_header(
-            times, words, time, packet, h, byte, counters, memory, numbers, next,
-        ),
+        ControlFlow::Continue(next) => {
+            let seen = Seen {
+                time,
+                packet,
+                header: h,
+                byte,
+            };
+            judge_header(times, words, seen, counters, memory, numbers, next)
+        }
         ControlFlow::Break(next) => next,
     }
 }

@@ -26,27 +26,27 @@ pub returns-then-not-j-clause-by_index : goal.returns-then-not-j-clause-by_index
 returns-then-not-j-clause-by_index c =
     let args = c.args in
     λ cs r e.
-    course_left args.time args.packet.now r args.j.keep _ cs (core_in args.times.now args.words.now) _ args.memory.now args.numbers.now args.n (c.keep_room.ensures.0 args.times.now r e) (rw (not-true _ c.if-not-j.true))
+    course_left args.seen.time args.seen.packet.now r args.j.keep _ cs (core_in args.times.now args.words.now) _ args.memory.now args.numbers.now args.n (c.keep_room.ensures.0 args.times.now r e) (rw (not-true _ c.if-not-j.true))
 
 pub returns-in_default-clause-by_index : goal.returns-in_default-clause-by_index
 returns-in_default-clause-by_index c =
     let args = c.args in
     λ cs r e.
     let past = le-ltb r room_count (within_past room_count r (sym c.in_default.is ∙ e)) in
-    course_left args.time args.packet.now r args.j.keep _ cs (core_in args.times.now args.words.now) _ args.memory.now args.numbers.now args.n (c.keep_room.ensures.0 args.times.now r e) (rw (not-false _ c.if-not-j.false, past))
+    course_left args.seen.time args.seen.packet.now r args.j.keep _ cs (core_in args.times.now args.words.now) _ args.memory.now args.numbers.now args.n (c.keep_room.ensures.0 args.times.now r e) (rw (not-false _ c.if-not-j.false, past))
 
 pub slice_bounds-take_payload-count : goal.slice_bounds-take_payload-count
-slice_bounds-take_payload-count c = begins c.args.h c.args.packet.now c.requires.h_value.0 c.requires.sized.1.packet
+slice_bounds-take_payload-count c = begins c.args.seen.header c.args.seen.packet.now c.requires.h_value.0 c.requires.sized.1.packet
 
 pub slice_bounds-take_payload-start : goal.slice_bounds-take_payload-start
-slice_bounds-take_payload-start c = omega (arith, begins c.args.h c.args.packet.now c.requires.h_value.0 c.requires.sized.1.packet)
+slice_bounds-take_payload-start c = omega (arith, begins c.args.seen.header c.args.seen.packet.now c.requires.h_value.0 c.requires.sized.1.packet)
 
 pub take_payload-requires : goal.take_payload-requires
 take_payload-requires c =
     let args = c.args in
-    let packet = args.packet.now in
-    let at = args.h.payload in
-    let f = fields args.h packet c.requires.h_value.0 in
+    let packet = args.seen.packet.now in
+    let at = args.seen.header.payload in
+    let f = fields args.seen.header packet c.requires.h_value.0 in
     let below = c.requires.h_value.1 c.in-Some.room c.in-Some.is in
     let kept = c.keep_room.ensures.0 args.times.now c.in-Some.room (c.in-Some.is ∙ within_here room_count _ c.in-Some.room refl below) in
     let ready = c.requires.sized.1 in (
@@ -65,14 +65,14 @@ take_payload-requires c =
 pub returns-clause-by_index : goal.returns-clause-by_index
 returns-clause-by_index c =
     let args = c.args in
-    let packet = args.packet.now in
+    let packet = args.seen.packet.now in
     let core = core_in args.times.now args.words.now in
-    let f = fields args.h packet c.requires.h_value.0 in
+    let f = fields args.seen.header packet c.requires.h_value.0 in
     let taken = c.take_payload.ensures in
     λ cs r e.
     let found = within_is room_count r c.in-Some.room (sym c.in-Some.is ∙ e) in
     let within_room : r < room_count = rw found at (c.requires.h_value.1 c.in-Some.room c.in-Some.is) in
     let same = kept_as args.j.keep core _ args.memory.now r (c.keep_room.ensures.0 args.times.now r e) in
-    let s = rw (rest_all packet args.h.payload, f.payload, f.pid, f.start, same, found) at taken.shown in
-    done_as (taken_in args.time packet r args.j.keep cs (held core args.memory.now) _ (rw (not-false _ c.if-not-j.false, lt-ltb r room_count within_room)))
+    let s = rw (rest_all packet args.seen.header.payload, f.payload, f.pid, f.start, same, found) at taken.shown in
+    done_as (taken_in args.seen.time packet r args.j.keep cs (held core args.memory.now) _ (rw (not-false _ c.if-not-j.false, lt-ltb r room_count within_room)))
     (record { core = s.core; counters = refl; memory = s.memory; next = s.next; laid = s.laid; few = taken.moved.1 })
