@@ -20,7 +20,7 @@ pub use moves::{
 };
 use programmes::MOST_LISTED;
 use sections::ROOMS;
-use watches::{Entry, FIXED};
+use watches::{Entry, FIXED, NO_ENTRY};
 
 // What a host is told of a call: the refusal number (0: accepted) and the number of events.
 #[repr(C)]
@@ -118,7 +118,7 @@ fn listed_in(words: &[u16]) -> usize
     requires { core_word_count ≤ length words.now }
     ensures { result ≤ most_listed }
 {
-    usize::from(words[COUNT]).min(MOST_LISTED)
+    count_in(words).min(MOST_LISTED)
 }
 
 // The sixteen entries, the listed ones first: a loop whose length the compiler does not know keeps the
@@ -127,11 +127,7 @@ pub fn entries_in(times: &[u64], words: &[u16]) -> [Entry; MOST_LISTED]
     requires { (core_time_count ≤ length times.now) × (core_word_count ≤ length words.now) }
     ensures { result ≡ entries_in times.now words.now }
 {
-    let mut out = [Entry {
-        number: 0,
-        pid: 0,
-        since: 0,
-    }; MOST_LISTED];
+    let mut out = [NO_ENTRY; MOST_LISTED];
     let n = listed_in(words);
     for k in 0..n {
         out[k] = entry_at(times, words, k);

@@ -1,4 +1,5 @@
-// What a call reads of the lent arrays, and what it moves in them, one thing at a time.
+// What a call reads of the lent arrays, and what it moves in them, one thing at a time. The arrays stay slices here: what may
+// not change is that a read asks for the core's numbers or more, and that `judge_packet` and `take_payload` hand on slices.
 ghost use Rattle.std.specs.Prelude.{◌≡◌, ◌≤◌, ◌<◌, List, ℕ, length, set, replicate, eqb, position};
 ghost use Rattle.watches.specs.Tables.{fixed_count};
 ghost use Rattle.sections.specs.Rooms.{room_count};
