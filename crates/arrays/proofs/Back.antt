@@ -6,6 +6,7 @@ use Prim.Native.Nat.{ℕ, zero, suc, ◌+◌, ◌<◌, ◌≤◌}
 use native.Mathlib.Nat.{zero-add}
 use native.Mathlib.Omega.{arith}
 use lib.ListN.{length, get_or, take, drop, length-append, length-drop, get_or-append}
+use mir.Val.{bool_byte}
 use lib.Seq.{take_at, drop_at, get_or-append-add, ext_get_or, take-append-le, drop-append-le}
 use borrow.Author.Tests.{le-leb}
 use Rattle.lists.specs.Places.{part}
@@ -40,6 +41,10 @@ get_or_behind a b n i e = ap (λ (k : ℕ). get_or (a ++ b) (k + i) 0) (sym e) �
 part_front : (a b : List ℕ) (at n : ℕ) → at + n ≤ length a → part (a ++ b) at n ≡ part a at n
 unfolding part
 part_front a b at n h = rw (drop-append-le at a b (omega arith), take-append-le n (drop at a) b (omega (arith, length-drop at a)))
+
+pub lost_told : (b : Bool) → bool_byte b ≡ lost_word b
+lost_told true = refl
+lost_told false = refl
 
 pub lost_back : (b : Bool) → lost_in (lost_word b) ≡ b
 lost_back true = refl

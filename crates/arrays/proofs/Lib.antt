@@ -3,6 +3,7 @@ pub mod Packing
 pub mod Back
 pub mod Shapes
 pub mod Stores
+pub mod Places
 pub mod Same
 pub mod Packed
 pub mod Kept

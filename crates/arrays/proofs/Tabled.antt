@@ -1,16 +1,20 @@
 -- Arrays filled place by place, and laid into others. Assumes nothing.
-use mathlib.Core.Path.{◌≡◌, refl, sym, ap, ◌∙◌}
-use mathlib.Core.List.{List, [], ◌∷◌, ◌++◌, map, append-nil}
-use Prim.Native.Nat.{ℕ, zero, suc, ◌+◌, ◌<◌, ◌≤◌}
+use mathlib.Core.Path.{◌≡◌, refl, sym, ap, ap₂, ◌∙◌}
+use mathlib.Core.List.{List, [], ◌∷◌, ◌++◌, map, append-nil, append_assoc}
+use Prim.Native.Nat.{ℕ, zero, suc, ◌+◌, ◌-◌, ◌<◌, ◌≤◌}
 use native.Mathlib.Nat.{add-zero, zero-add, le_of_suc-le-suc, not-suc-le-zero}
 use native.Mathlib.Numerals.{add-one}
 use native.Mathlib.Omega.{arith}
-use lib.ListN.{length, get_or, set, drop}
-use lib.Seq.{sets, sets-eq, take_all}
+use lib.ListN.{length, get_or, set, take, drop}
+use lib.Seq.{sets, sets-eq, take_all, ext_get_or}
+use denote.Param.Members.{Mut}
+use borrow.Rule.Slice.PartMut.{put_mid}
+use Rattle.std.proofs.Common.{drop-drop}
+use Rattle.std.specs.Array.{IsMapOf}
+use Rattle.std.specs.Fn.{Called}
 use Rattle.lists.specs.Places.{part}
 use Rattle.lists.proofs.Places.{part_turn}
 use Rattle.lists.proofs.Turns.{drop_none}
-use Rattle.lists.proofs.Laying.{sets_turn}
 use Rattle.arrays.specs.Lent.{tabled}
 
 module _ {A : Type 0} where
@@ -72,9 +76,19 @@ pub length_map : {A B : Type 0} (f : A → B) (l : List A) → length (map f l) 
 length_map f [] = refl
 length_map f (x ∷ l) = ap suc (length_map f l)
 
--- one turn of a loop that lays a field of each element
-pub sets_map_turn : {A B : Type 0} (f : A → B) (l : List B) (at i : ℕ) (s : List A) (d : A) (b : B) → i < length s
-    → sets l (at + i) (drop i (map f s)) ≡ sets (set l (at + i) (f (get_or s i d))) (at + (i + 1)) (drop (i + 1) (map f s))
-sets_map_turn f l at i s d b h =
-    sets_turn l at i (map f s) b (rw (length_map f s) h)
-    ∙ ap (λ x. sets (set l (at + i) x) (at + (i + 1)) (drop (i + 1) (map f s))) (get_d_map f s i d b h)
+-- a part written over
+pub put_sets : {A : Type 0} (at n : ℕ) (l new vs : List A) → new ≡ vs → length vs ≡ n → at + n ≤ length l → put_mid at (at + n - at) l new ≡ sets l at vs
+put_sets at n l new vs e size fits =
+    let same : at + n - at ≡ length vs = omega (arith, size) in
+    ap₂ (λ (a b : List _). take at l ++ (a ++ b)) e (ap (λ k. drop k (drop at l)) same ∙ drop-drop (length vs) at l)
+    ∙ sym (append_assoc (take at l) vs (drop (at + length vs) l))
+    ∙ sym (sets-eq vs l at (omega (arith, size)))
+
+-- an array mapped by a closure that computes v
+pub mapped : {F A B : Type 0} {g : Mut F (A × Unit {0}) B} {f : F} {xs : List A} {ys : List B} {n : ℕ} (v : A → B) (d : A)
+    → ((p : F) (x : A) (y : B) (q : F) → Called g p (x, tt) y q → y ≡ v x) → length xs ≡ n → IsMapOf g f xs ys n → ys ≡ map v xs
+mapped {xs = xs} {ys = ys} v d each size m =
+    ext_get_or (v d) ys (map v xs) (m.long ∙ sym (length_map v xs ∙ size))
+    (λ i h.
+    let called = m.at i d (v d) (omega (arith, m.long)) in
+    each called.0 _ _ called.1 called.2 ∙ sym (get_d_map v xs i d (v d) (omega (arith, m.long))))

@@ -20,7 +20,7 @@ pub use moves::{
 };
 use programmes::MOST_LISTED;
 use sections::ROOMS;
-use watches::{Entry, FIXED};
+use watches::{Entry, FIXED, NO_ENTRY};
 
 // What a host is told of a call: the refusal number (0: accepted) and the number of events.
 #[repr(C)]
@@ -87,11 +87,7 @@ fn gaps_in(times: &[u64]) -> [u64; FIXED]
     ensures { result ≡ gaps_in times.now }
 {
     let mut out = [0u64; FIXED];
-    let mut k: usize = 0;
-    while k < FIXED {
-        out[k] = times[GAPS + k];
-        k += 1;
-    }
+    out.copy_from_slice(gaps_of(times));
     out
 }
 
@@ -101,11 +97,7 @@ pub fn halves_in(words: &[u16]) -> [u16; ROOMS]
     ensures { result ≡ halves_in words.now }
 {
     let mut out = [0u16; ROOMS];
-    let mut k: usize = 0;
-    while k < ROOMS {
-        out[k] = words[HALVES + k];
-        k += 1;
-    }
+    out.copy_from_slice(halves_of(words));
     out
 }
 
@@ -126,10 +118,7 @@ fn listed_in(words: &[u16]) -> usize
     requires { core_word_count ≤ length words.now }
     ensures { result ≤ most_listed }
 {
-    if size_of(words[COUNT]) <= MOST_LISTED {
-        return size_of(words[COUNT]);
-    }
-    MOST_LISTED
+    count_in(words).min(MOST_LISTED)
 }
 
 // The sixteen entries, the listed ones first: a loop whose length the compiler does not know keeps the
@@ -138,38 +127,15 @@ pub fn entries_in(times: &[u64], words: &[u16]) -> [Entry; MOST_LISTED]
     requires { (core_time_count ≤ length times.now) × (core_word_count ≤ length words.now) }
     ensures { result ≡ entries_in times.now words.now }
 {
-    let mut out = [Entry {
-        number: 0,
-        pid: 0,
-        since: 0,
-    }; MOST_LISTED];
+    let mut out = [NO_ENTRY; MOST_LISTED];
     let n = listed_in(words);
-    let mut k: usize = 0;
-    while k < n {
+    for k in 0..n {
         out[k] = entry_at(times, words, k);
-        k += 1;
     }
-    while k < MOST_LISTED {
+    for k in n..MOST_LISTED {
         out[k] = entry_at(times, words, k);
-        k += 1;
     }
     out
-}
-
-// A run that a byte holds.
-fn run_in(w: u16) -> u8
-    ensures { result ≡ run_in w }
-{
-    if w <= 255 {
-        return w as u8;
-    }
-    255
-}
-
-fn size_of(w: u16) -> usize
-    ensures { result ≡ w }
-{
-    w as usize
 }
 
 // A state by value has by its types how many places its arrays have, and a run that a byte holds: a call of these shows it.
@@ -199,70 +165,42 @@ pub fn typed(state: State) -> usize
 pub fn state_in(times: &[u64; TIMES], words: &[u16; WORDS]) -> State
     ensures { result ≡ state_in times.now words.now }
 {
-    let t = time_count(times);
-    let w = word_count(words);
     State {
         latest: times[LATEST],
         core: Core {
-            lost: words[LOST] != 0,
-            run: run_in(words[RUN]),
+            lost: sync_lost(words),
+            run: sync_run(words),
             since: gaps_in(times),
-            count: size_of(words[COUNT]),
+            count: count_in(words),
             entries: entries_in(times, words),
             half: halves_in(words),
         },
     }
 }
 
-// The gap starts of the fixed tables, laid into the times.
-fn lay_gaps(times: &mut [u64], since: [u64; FIXED])
-    requires { length times.old ≡ time_count }
-    ensures { times.new ≡ sets times.old gaps_at since }
+// Values laid into an array from a place on.
+fn lay<T: Copy, const N: usize>(list: &mut [T], at: usize, values: [T; N])
+    requires { at + N ≤ length list.old }
+    ensures { list.new ≡ sets list.old at values }
 {
-    let mut k: usize = 0;
-    while k < FIXED {
-        times[GAPS + k] = since[k];
-        k += 1;
-    }
+    list[at..at + N].copy_from_slice(&values);
 }
 
-// Those of the entries.
+// The gap starts of the entries, laid into the times.
 fn lay_sinces(times: &mut [u64], entries: [Entry; MOST_LISTED])
     requires { length times.old ≡ time_count }
-    ensures { (times.new ≡ sets times.old sinces_at (map (λ e. e.since) entries)) × (length entries ≡ most_listed) }
+    ensures { times.new ≡ sets times.old sinces_at (map (λ e. e.since) entries) }
 {
-    let mut k: usize = 0;
-    while k < MOST_LISTED {
-        let e = entries[k];
-        times[SINCES + k] = e.since;
-        k += 1;
-    }
+    lay(times, SINCES, entries.map(|e| e.since));
 }
 
-// The programme numbers of the entries, laid into the words.
-fn lay_numbers(words: &mut [u16], entries: [Entry; MOST_LISTED])
+// Their programme numbers and PIDs, laid into the words.
+fn lay_pairs(words: &mut [u16], entries: [Entry; MOST_LISTED])
     requires { length words.old ≡ word_count }
-    ensures { (words.new ≡ sets words.old numbers_at (map (λ e. e.number) entries)) × (length entries ≡ most_listed) }
+    ensures { words.new ≡ sets (sets words.old numbers_at (map (λ e. e.number) entries)) pids_at (map (λ e. e.pid) entries) }
 {
-    let mut k: usize = 0;
-    while k < MOST_LISTED {
-        let e = entries[k];
-        words[NUMBERS + k] = e.number;
-        k += 1;
-    }
-}
-
-// Their PIDs.
-fn lay_pids(words: &mut [u16], entries: [Entry; MOST_LISTED])
-    requires { length words.old ≡ word_count }
-    ensures { words.new ≡ sets words.old pids_at (map (λ e. e.pid) entries) }
-{
-    let mut k: usize = 0;
-    while k < MOST_LISTED {
-        let e = entries[k];
-        words[PIDS + k] = e.pid;
-        k += 1;
-    }
+    lay(words, NUMBERS, entries.map(|e| e.number));
+    lay(words, PIDS, entries.map(|e| e.pid));
 }
 
 // The half-built lengths.
@@ -270,64 +208,31 @@ pub fn lay_halves(words: &mut [u16], half: [u16; ROOMS])
     requires { length words.old ≡ word_count }
     ensures { (words.new ≡ sets words.old halves_at half) × (length half ≡ room_count) }
 {
-    let mut k: usize = 0;
-    while k < ROOMS {
-        words[HALVES + k] = half[k];
-        k += 1;
-    }
+    lay(words, HALVES, half);
 }
 
 // The times of a state.
-pub fn lay_times(state: State, times: &mut [u64])
-    requires { length times.old ≡ time_count }
+pub fn lay_times(state: State, times: &mut [u64; TIMES])
     ensures { times.new ≡ times_of state }
 {
     times[LATEST] = state.latest;
-    let since = state.core.since;
-    lay_gaps(times, since);
-    let entries = state.core.entries;
-    lay_sinces(times, entries);
-}
-
-fn lost_word(lost: bool) -> u16
-    ensures { result ≡ lost_word lost }
-{
-    if lost {
-        return 1;
-    }
-    0
+    lay(times, GAPS, state.core.since);
+    lay_sinces(times, state.core.entries);
 }
 
 fn count_word(count: usize) -> u16
     ensures { result ≡ count_word count }
 {
-    if count <= 65535 {
-        return count as u16;
-    }
-    65535
-}
-
-// Sync and the length of the list, laid behind the rest.
-fn lay_marks(words: &mut [u16], lost: u16, run: u16, count: u16)
-    requires { length words.old ≡ word_count }
-    ensures { words.new ≡ sets words.old lost_at (lost ∷ run ∷ count ∷ []) }
-{
-    words[LOST] = lost;
-    words[RUN] = run;
-    words[COUNT] = count;
+    u16::try_from(count).unwrap_or(65535)
 }
 
 // The words of a state.
-pub fn lay_words(state: State, words: &mut [u16])
-    requires { length words.old ≡ word_count }
+pub fn lay_words(state: State, words: &mut [u16; WORDS])
     ensures { words.new ≡ words_of state }
 {
-    let entries = state.core.entries;
-    lay_numbers(words, entries);
-    lay_pids(words, entries);
-    let half = state.core.half;
-    lay_halves(words, half);
-    let lost = lost_word(state.core.lost);
-    let count = count_word(state.core.count);
-    lay_marks(words, lost, state.core.run as u16, count);
+    lay_pairs(words, state.core.entries);
+    lay_halves(words, state.core.half);
+    let lost = u16::from(state.core.lost);
+    let run = u16::from(state.core.run);
+    lay(words, LOST, [lost, run, count_word(state.core.count)]);
 }

@@ -1,5 +1,6 @@
-// What a call reads of the lent arrays, and what it moves in them, one thing at a time.
-ghost use Rattle.std.specs.Prelude.{◌≡◌, ◌≤◌, ◌<◌, List, ℕ, length, set, replicate};
+// What a call reads of the lent arrays, and what it moves in them, one thing at a time. The arrays stay slices here: what may
+// not change is that a read asks for the core's numbers or more, and that `judge_packet` and `take_payload` hand on slices.
+ghost use Rattle.std.specs.Prelude.{◌≡◌, ◌≤◌, ◌<◌, List, ℕ, length, set, replicate, eqb, position};
 ghost use Rattle.watches.specs.Tables.{fixed_count};
 ghost use Rattle.sections.specs.Rooms.{room_count};
 ghost use Rattle.programmes.specs.Listing.{most_listed};
@@ -7,7 +8,7 @@ ghost use Rattle.programmes.specs.Places.{place_of, half_at};
 ghost use Rattle.calls.specs.Cores.{with_half, with_sync, with_list};
 ghost use Rattle.calls.specs.Steps.{touched, arrived_table, arrived_programme};
 ghost use Rattle.arrays.specs.Lent.{time_count, word_count, sync_lost, sync_run, gaps_in, count_in, halves_in, core_in, times_of, words_of, core_time_count, core_word_count};
-ghost use Rattle.arrays.specs.inner.Kept.{listed_in};
+ghost use Rattle.arrays.specs.inner.Kept.{listed_in, place_among};
 ghost use Rattle.arrays.specs.inner.Kept.{LatestKept, SyncKept, Moved, SyncTold};
 
 use crate::{COUNT, GAPS, HALVES, LATEST, LOST, PIDS, RUN, SINCES};
@@ -28,7 +29,7 @@ pub fn sync_run(words: &[u16]) -> u8
     requires { core_word_count ≤ length words.now }
     ensures { result ≡ sync_run words.now }
 {
-    crate::run_in(words[RUN])
+    u8::try_from(words[RUN]).unwrap_or(255)
 }
 
 // How many programmes are listed.
@@ -36,7 +37,7 @@ pub fn count_in(words: &[u16]) -> usize
     requires { core_word_count ≤ length words.now }
     ensures { result ≡ count_in words.now }
 {
-    crate::size_of(words[COUNT])
+    usize::from(words[COUNT])
 }
 
 // The gap starts of the fixed tables, where they stand.
@@ -63,20 +64,19 @@ pub fn half_in(words: &[u16], room: usize) -> u16
     words[HALVES + room]
 }
 
-// The first place of the list with a PID, or the length of the list where there is none.
-pub fn place_in(words: &[u16], pid: u16) -> usize
-    requires { (core_word_count ≤ length words.now) × (count_in words.now ≤ most_listed) }
-    ensures { (times : List ℕ) → result ≡ place_of pid (listed_in times words.now) }
+// The first place of a PID among some.
+fn first_with(pids: &[u16], pid: u16) -> Option<usize>
+    ensures { result ≡ position (λ p. eqb p pid) pids.now }
 {
-    let count = count_in(words);
-    let mut i: usize = 0;
-    while i < count {
-        if words[PIDS + i] == pid {
-            return i;
-        }
-        i += 1;
-    }
-    count
+    pids.iter().position(|&p| p == pid)
+}
+
+// The first place of the list with a PID, if there is one.
+pub fn place_in(words: &[u16], pid: u16) -> Option<usize>
+    requires { (core_word_count ≤ length words.now) × (count_in words.now ≤ most_listed) }
+    ensures { (times : List ℕ) → result ≡ place_among pid (listed_in times words.now) }
+{
+    first_with(&words[PIDS..PIDS + count_in(words)], pid)
 }
 
 // Sync as step 1 leaves it.
@@ -85,8 +85,8 @@ pub fn set_sync(words: &mut [u16], lost: bool, run: u8)
     ensures { ((times : List ℕ) → core_in times words.new ≡ with_sync lost run (core_in times words.old))
         × SyncTold words.new }
 {
-    words[LOST] = crate::lost_word(lost);
-    words[RUN] = run as u16;
+    words[LOST] = u16::from(lost);
+    words[RUN] = u16::from(run);
 }
 
 // The half-built length of a room, set anew.
@@ -132,12 +132,9 @@ pub fn end_pair(times: &mut [u64], words: &[u16], number: u16, pid: u16, time: u
     ensures { (core_in times.new words.now ≡ arrived_programme number pid time (core_in times.old words.now))
         × LatestKept times.old times.new }
 {
-    let count = count_in(words);
-    let mut i: usize = 0;
-    while i < count {
+    for i in 0..count_in(words) {
         let e = crate::entry_at(times, words, i);
         times[SINCES + i] = since_after(e, number, pid, time);
-        i += 1;
     }
 }
 
@@ -148,8 +145,7 @@ pub fn lay_list(times: &mut [u64], words: &mut [u16], entries: [Entry; MOST_LIST
         × Moved times.old words.old times.new words.new }
 {
     crate::lay_sinces(times, entries);
-    crate::lay_numbers(words, entries);
-    crate::lay_pids(words, entries);
+    crate::lay_pairs(words, entries);
     words[COUNT] = count as u16;
 }
 
@@ -160,5 +156,5 @@ pub fn settle(times: &mut [u64], words: &mut [u16], time: u64)
         × (words.new ≡ words_of (record { latest = time; core = core_in times.old words.old })) }
 {
     times[LATEST] = time;
-    words[LOST] = crate::lost_word(words[LOST] != 0);
+    words[LOST] = u16::from(words[LOST] != 0);
 }

@@ -9,7 +9,7 @@ use lib.ListN.{length, set}
 use lib.Seq.{set-set}
 use Rattle.lists.specs.Laying.{laid}
 use Rattle.lists.proofs.Tests.{cond_either}
-use Rattle.lists.proofs.Laying.{laid_turn}
+use Rattle.lists.proofs.Laying.{laid_none, laid_turn}
 use Rattle.events.specs.declared.Event.{Event}
 use Rattle.events.specs.Events.{numbers_of, events_laid}
 use Rattle.events.specs.Faults.{transport_error, continuity_error}
@@ -130,7 +130,7 @@ module _ (t : ℕ) (p : List ℕ) (r : ℕ) (keep : Bool) (cs : List ℕ) (h : H
   abbrev left : Held
   left = cond keep h (dropped_room r h)
 
-  pub left_out : (take : Bool) → take ≡ false → quiet left cs ≡ coursed t p r keep take cs h
+  left_out : (take : Bool) → take ≡ false → quiet left cs ≡ coursed t p r keep take cs h
   left_out take e = rw e
 
   pub taken_in : (take : Bool) → take ≡ true
@@ -138,10 +138,19 @@ module _ (t : ℕ) (p : List ℕ) (r : ℕ) (keep : Bool) (cs : List ℕ) (h : H
   taken_in take e = rw e
 
 -- the core after step 4
-pub kept_held : (b : Bool) (c : Core) (m : List ℕ) (r : ℕ)
+kept_held : (b : Bool) (c : Core) (m : List ℕ) (r : ℕ)
     → held (cond b c (with_half (set c.half r 0) c)) m ≡ cond b (held c m) (dropped_room r (held c m))
 kept_held true c m r = refl
 kept_held false c m r = refl
+
+pub kept_as : (b : Bool) (c d : Core) (m : List ℕ) (r : ℕ) → d ≡ cond b c (with_half (set c.half r 0) c) → held d m ≡ cond b (held c m) (dropped_room r (held c m))
+kept_as b c d m r e = ap (λ k. held k m) e ∙ kept_held b c m r
+
+-- where the payload is not taken, that is all
+pub course_left : (t : ℕ) (p : List ℕ) (r : ℕ) (keep take : Bool) (cs : List ℕ) (c d : Core) (m list : List ℕ) (n : ℕ)
+    → d ≡ cond keep c (with_half (set c.half r 0) c) → take ≡ false → Done (coursed t p r keep take cs (held c m)) 62 d cs m list n list n
+course_left t p r keep take cs c d m list n kept e =
+    done_as (left_out t p r keep cs (held c m) take e) (done_from (kept_as keep c d m r kept) (done_quiet (held d m) cs 62 list n))
 
 -- STEP 4, where its verdict is j
 abbrev pub continuity_events : ℕ → ℕ → Bool → List Event
@@ -169,7 +178,7 @@ module _ (t : ℕ) (p cs : List ℕ) (c : Core) (j : Counted) (verdict : j ≡ c
   counter_clear e = ap (also (continuity_events t (pid_of p) j.event)) (sym (clear_ends t p counter_table c m j.take j.keep e)) ∙ ap from verdict
 
 -- STEP 1
-pub lost_is : (right : Bool) (c : Core) → c.lost ≡ true → synced_of right c ≡ while_lost right c
+lost_is : (right : Bool) (c : Core) → c.lost ≡ true → synced_of right c ≡ while_lost right c
 lost_is right c e = ap (λ b. cond b (while_lost right c) (in_sync right c)) e
 
 pub in_sync_is : (right : Bool) (c : Core) → c.lost ≡ false → synced_of right c ≡ in_sync right c
@@ -181,9 +190,16 @@ caught_as {t = t} {pid = pid} {c = c} {on = on} {before = before} {n = n} {after
     subst (λ y. CaughtAs y t pid c on before n after r) e d
 
 -- while sync is lost there are no events
-pub lost_silent : (right : Bool) (c : Core) → (while_lost right c).faults ≡ []
+lost_silent : (right : Bool) (c : Core) → (while_lost right c).faults ≡ []
 lost_silent true c = cond_either (λ (y : Synced). y.faults ≡ []) (eqb c.run 4) _ _ refl refl
 lost_silent false c = refl
+
+pub lost_caught : (right : Bool) (c d : Core) (on : Bool) (t pid : ℕ) (list : List ℕ) (n : ℕ) → c.lost ≡ true → d ≡ (while_lost right c).core → on ≡ (while_lost right c).further
+    → CaughtAs (synced_of right c) t pid d on list n list n
+lost_caught right c d on t pid list n lost core further =
+    let silent = lost_silent right c in
+    caught_as (sym (lost_is right c lost))
+    (record { core = core; further = further; next = rw silent (omega arith); laid = rw silent (sym (laid_none _ _ _ _)); few = omega arith })
 
 module _ (t : ℕ) (p cs : List ℕ) (c : Core) (m : List ℕ) (d : Core) (on : Bool) (before : List ℕ) (n : ℕ) (mid : List ℕ) (i : ℕ)
     (caught : CaughtAs (synced_of (right_sync p) c) t (pid_of p) d on before n mid i) where

@@ -1,31 +1,83 @@
 -- Rooms under steps 1 to 5: a dropped half-built section leaves every room sound, and PIDs in their rooms. Assumes nothing.
-use mathlib.Core.Path.{◌≡◌, refl, sym, ap, ap₂, ◌∙◌}
+use mathlib.Core.Path.{◌≡◌, refl, sym, ap, ◌∙◌, subst}
 use mathlib.Core.Logic.{◌⊎◌, inl, inr, ⊎_elim}
 use mathlib.Core.Bool.{Bool, true, false, cond}
 use mathlib.Core.List.{List, [], ◌∷◌}
-use Prim.Native.Nat.{ℕ, zero, suc, ◌+◌, ◌≤◌}
+use Prim.Native.Nat.{ℕ, zero, suc, ◌+◌, ◌<◌, ◌≤◌}
 use native.Mathlib.Omega.{arith}
 use lib.Dec.{eqb, ltb}
-use lib.ListN.{get_or, set, replicate}
 use lib.Seq.{length-take-le}
+use lib.ListN.{length, get_or, set, replicate}
+use borrow.Author.Tests.{lt-ltb, le-ltb, ltb-true, ltb-false}
+use Rattle.std.specs.Option.{MatchOption, ForSome, option_map}
+use Rattle.std.specs.Prelude.{Option, Some, None}
+use Rattle.std.proofs.lemmas.Option.{none-some}
 use Rattle.lists.proofs.Tests.{and_left, and_right, and_intro, cond_either}
-use Rattle.sections.specs.Rooms.{room_count, greatest_length, half_built}
+use Rattle.watches.specs.Tables.{fixed_count}
+use Rattle.sections.specs.Rooms.{room_count, no_room, room_of_place, greatest_length, half_built}
 use Rattle.sections.specs.Section.{stage_of, is_more}
-use Rattle.programmes.specs.Places.{place_of, is_listed}
+use Rattle.programmes.specs.Listing.{most_listed}
 use Rattle.calls.specs.declared.Core.{Core}
 use Rattle.calls.specs.Cores.{room_for, with_half, with_sync}
 use Rattle.calls.proofs.Accepted.{room_empty}
 use Rattle.calls.specs.Sound.{room_sound, rooms_from, rooms_sound}
 use Rattle.calls.specs.Sync.{Synced, lost_now, in_sync, while_lost, synced_of}
 use Rattle.arrays.specs.Lent.{count_in, entries_in}
-use Rattle.arrays.specs.inner.Kept.{listed_in}
+use Rattle.arrays.specs.inner.Kept.{listed_in, within}
 use Rattle.arrays.proofs.Stores.{entries_length}
 
--- whether a PID is listed, by its place
-pub listed_test : (times words : List ℕ) (q place count : ℕ) → place ≡ place_of q (listed_in times words) → count ≡ count_in words → count_in words ≤ 16
-    → ltb place count ≡ is_listed q (listed_in times words)
-listed_test times words q place count ep ec few =
-    ap₂ ltb ep (ec ∙ sym (length-take-le (count_in words) (entries_in times words) (omega (arith, entries_length times words))))
+-- WITHIN n numbers, or none
+pub within_here : (n r k : ℕ) → r ≡ k → k < n → Some k ≡ within n r
+within_here n r k e h = rw (e, lt-ltb k n h)
+
+pub within_none : (n r : ℕ) → n ≤ r → None ≡ within n r
+within_none n r h = rw (le-ltb r n h)
+
+-- the number found is the one searched for
+pub within_is : (n r k : ℕ) → Some k ≡ within n r → k ≡ r
+within_is n r k e = go (ltb r n) (subst (λ o. MatchOption o ⊥ (λ x. k ≡ x)) e refl)
+  where
+    go : (b : Bool) → MatchOption (cond b (Some r) None) ⊥ (λ x. k ≡ x) → k ≡ r
+    go true h = h
+    go false h = absurd h
+
+pub within_below : (n r : ℕ) (o : Option ℕ) → o ≡ within n r → ForSome o (λ k. k < n)
+within_below n r o e k some =
+    let found = sym some ∙ e in
+    rw (within_is n r k found) (under (ltb r n) refl found)
+  where
+    under : (b : Bool) → ltb r n ≡ b → Some k ≡ cond b (Some r) None → r < n
+    under true h x = ltb-true r n h
+    under false h x = absurd (none-some k (sym x))
+
+pub within_past : (n r : ℕ) → None ≡ within n r → n ≤ r
+within_past n r e = go (ltb r n) refl e
+  where
+    go : (b : Bool) → ltb r n ≡ b → None ≡ cond b (Some r) None → n ≤ r
+    go true h x = absurd (none-some r x)
+    go false h x = ltb-false r n h
+
+-- at most sixteen are listed
+pub listed_few : (times words : List ℕ) → count_in words ≤ most_listed → length (listed_in times words) ≤ most_listed
+listed_few times words few =
+    omega (arith, length-take-le (count_in words) (entries_in times words) (omega (arith, entries_length times words)))
+
+-- the room of a place
+pub placed : (n p : ℕ) → n ≤ 16 → (o : Option ℕ) → o ≡ within n p → option_map (λ k. fixed_count + k) o ≡ within room_count (cond (ltb p n) (room_of_place p) no_room)
+placed n p few o e = rw e (go (ltb p n) refl)
+  where
+    go : (b : Bool) → ltb p n ≡ b → option_map (λ k. fixed_count + k) (cond b (Some p) None) ≡ within room_count (cond b (room_of_place p) no_room)
+    go true h = within_here room_count (fixed_count + p) (fixed_count + p) refl (omega (arith, ltb-true p n h))
+    go false h = refl
+
+-- the room of a table, or else another
+pub roomed : (P : Type 0) (o r : Option ℕ) (i m : ℕ) → o ≡ within fixed_count i → (P → r ≡ within room_count m) → MatchOption o P (λ x. r ≡ Some x)
+    → r ≡ within room_count (cond (ltb i fixed_count) i m)
+roomed P o r i m e other given = go (ltb i fixed_count) refl (subst (λ o. MatchOption o P (λ x. r ≡ Some x)) e given)
+  where
+    go : (b : Bool) → ltb i fixed_count ≡ b → MatchOption (cond b (Some i) None) P (λ x. r ≡ Some x) → r ≡ within room_count (cond b i m)
+    go true h x = x ∙ within_here room_count i i refl (omega (arith, ltb-true i fixed_count h))
+    go false h x = other x
 
 -- where sections of a PID are built is a matter of the list alone
 pub room_kept : (ns : List ℕ) (c : Core) (q : ℕ) → room_for (with_half ns c) q ≡ room_for c q

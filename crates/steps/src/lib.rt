@@ -5,11 +5,12 @@
 
 mod sync;
 
-ghost use Rattle.std.specs.Prelude.{◌≡◌, true, cond, List, [], ◌∷◌, ℕ, ◌+◌, ◌<◌, ◌≤◌, length, set};
+ghost use Rattle.std.specs.Prelude.{◌≡◌, ◌&&◌, cond, ltb, List, [], ◌∷◌, ℕ, ◌+◌, ◌<◌, ◌≤◌, length, set};
+ghost use Rattle.std.specs.Option.{ForSome};
 ghost use Rattle.events.specs.Capacity.{least_capacity, number_capacity};
 ghost use Rattle.events.specs.Events.{events_laid};
 ghost use Rattle.events.specs.Faults.{continuity_error};
-ghost use Rattle.watches.specs.Tables.{fixed_tables};
+ghost use Rattle.watches.specs.Tables.{fixed_tables, fixed_count};
 ghost use Rattle.header.specs.Header.{header_of};
 ghost use Rattle.header.specs.inner.Reads.{ReadOff};
 ghost use Rattle.sections.specs.Rooms.{room_count};
@@ -18,48 +19,46 @@ ghost use Rattle.programmes.specs.Places.{is_listed};
 ghost use Rattle.calls.specs.Cores.{fixed_room, list_room, room_for, with_half};
 ghost use Rattle.calls.specs.Steps.{scrambling_events, step1, step2, step4};
 ghost use Rattle.arrays.specs.Lent.{word_count, count_in, halves_in, core_in, core_word_count};
-ghost use Rattle.arrays.specs.inner.Kept.{listed_in};
+ghost use Rattle.arrays.specs.inner.Kept.{listed_in, within};
 ghost use Rattle.arrays.specs.inner.Kept.{Sized, LatestKept, SyncKept, Moved, SyncTold};
 ghost use Rattle.payloads.specs.inner.Taking.{held};
 ghost use Rattle.steps.specs.inner.Judging.{Ready, Judgeable, Done, fault_events, coursed};
 
+use continuity::Counted;
 use events::{CONTINUITY_ERROR, NO_CAUSE, PAT_ERROR, PMT_ERROR, SCRAMBLED, TRANSPORT_ERROR};
 use header::{Header, SYNC_BYTE};
 use programmes::NULL_PID;
-use sections::{MEMORY, ROOMS};
+use sections::MEMORY;
+use std::ops::ControlFlow;
 use watches::{FIXED, PAT_PID};
 
-// What step 1 says: the next place for an event, and whether the packet is judged further.
+// A packet at a time, its header, and the table byte of its PID.
 #[derive(Clone, Copy)]
-struct Caught {
-    n: usize,
-    further: bool,
+struct Seen<'a> {
+    time: u64,
+    packet: &'a [u8],
+    header: Header,
+    byte: u8,
 }
 
-// The place of a PID in the table of fixed watches, or their number.
-fn fixed_room(pid: u16) -> usize
-    ensures { result ≡ fixed_room pid fixed_tables }
+// The place of a PID in the table of fixed watches, if it is there.
+fn fixed_room(pid: u16) -> Option<usize>
+    ensures { result ≡ within fixed_count (fixed_room pid fixed_tables) }
 {
-    let mut k: usize = 0;
-    while k < FIXED {
+    for k in 0..FIXED {
         if watches::table_of(k).pid == pid {
-            return k;
+            return Some(k);
         }
-        k += 1;
     }
-    FIXED
+    None
 }
 
-// The room of a PID by its first place in the list, or the number of rooms: no section of it is built.
-fn list_room(words: &[u16], pid: u16) -> usize
+// The room of a PID by its first place in the list; of any other no section is built.
+fn list_room(words: &[u16], pid: u16) -> Option<usize>
     requires { (core_word_count ≤ length words.now) × (count_in words.now ≤ most_listed) }
-    ensures { (times : List ℕ) → result ≡ list_room pid (listed_in times words.now) }
+    ensures { (times : List ℕ) → result ≡ within room_count (list_room pid (listed_in times words.now)) }
 {
-    let place = arrays::place_in(words, pid);
-    if place < arrays::count_in(words) {
-        return FIXED + place;
-    }
-    ROOMS
+    arrays::place_in(words, pid).map(|place| FIXED + place)
 }
 
 // Whether a PID is that of a listed programme.
@@ -67,44 +66,37 @@ fn is_listed(words: &[u16], pid: u16) -> bool
     requires { (core_word_count ≤ length words.now) × (count_in words.now ≤ most_listed) }
     ensures { (times : List ℕ) → result ≡ is_listed pid (listed_in times words.now) }
 {
-    let place = arrays::place_in(words, pid);
-    place < arrays::count_in(words)
+    arrays::place_in(words, pid).is_some()
 }
 
-// The room where sections of a PID are built, or the number of rooms.
-fn room_for(words: &[u16], pid: u16) -> usize
+// The room where sections of a PID are built, if they are.
+fn room_for(words: &[u16], pid: u16) -> Option<usize>
     requires { (core_word_count ≤ length words.now) × (count_in words.now ≤ most_listed) }
-    ensures { (times : List ℕ) → result ≡ room_for (core_in times words.now) pid }
+    ensures { (times : List ℕ) → result ≡ within room_count (room_for (core_in times words.now) pid) }
 {
-    let fixed = fixed_room(pid);
-    if fixed < FIXED {
-        return fixed;
-    }
-    list_room(words, pid)
+    fixed_room(pid).or_else(|| list_room(words, pid))
 }
 
 // The half-built section of a room, if it is one, dropped.
-fn drop_room(words: &mut [u16], room: usize)
-    requires { length words.old ≡ word_count }
-    ensures { ((times : List ℕ) → core_in times words.new ≡ with_half (set (halves_in words.old) room 0) (core_in times words.old))
+fn drop_room(words: &mut [u16], room: Option<usize>)
+    requires { (length words.old ≡ word_count) × ForSome room (λ r. r < room_count) }
+    ensures { ((times : List ℕ) (r : ℕ) → room ≡ within room_count r → core_in times words.new ≡ with_half (set (halves_in words.old) r 0) (core_in times words.old))
         × SyncKept words.old words.new }
 {
-    if ROOMS <= room {
-        return;
+    if let Some(room) = room {
+        arrays::set_half(words, room, 0);
     }
-    arrays::set_half(words, room, 0);
 }
 
 // The half-built section of a room dropped, unless it is kept.
-fn keep_room(words: &mut [u16], room: usize, keep: bool)
-    requires { length words.old ≡ word_count }
-    ensures { ((times : List ℕ) → core_in times words.new ≡ cond keep (core_in times words.old) (with_half (set (halves_in words.old) room 0) (core_in times words.old)))
+fn keep_room(words: &mut [u16], room: Option<usize>, keep: bool)
+    requires { (length words.old ≡ word_count) × ForSome room (λ r. r < room_count) }
+    ensures { ((times : List ℕ) (r : ℕ) → room ≡ within room_count r → core_in times words.new ≡ cond keep (core_in times words.old) (with_half (set (halves_in words.old) r 0) (core_in times words.old)))
         × SyncKept words.old words.new }
 {
-    if keep {
-        return;
+    if !keep {
+        drop_room(words, room);
     }
-    drop_room(words, room);
 }
 
 // Step 5 on a packet that is scrambled: its event, if it has one.
@@ -142,27 +134,28 @@ fn tell_continuity(event: bool, time: u64, pid: u16, numbers: &mut [u64], n: usi
 fn take_course(
     times: &mut [u64],
     words: &mut [u16],
-    time: u64,
-    packet: &[u8],
-    h: Header,
-    room: usize,
-    keep: bool,
-    take: bool,
+    seen: Seen,
+    room: Option<usize>,
+    j: Counted,
     memory: &mut [u8; MEMORY],
     numbers: &mut [u64],
     n: usize,
 ) -> usize
-    requires sized { Sized times.old words.old × Ready (core_in times.old words.old) memory.old packet.now numbers.old n 62 }
-    requires h_value { (h ≡ header_of packet.now) × (take ≡ true → room < room_count) }
-    ensures by_index { (cs : List ℕ) → Done (coursed time packet.now room keep take cs (held (core_in times.old words.old) memory.old)) 62
+    requires sized { Sized times.old words.old × Ready (core_in times.old words.old) memory.old seen.packet.now numbers.old n 62 }
+    requires h_value { (seen.header ≡ header_of seen.packet.now) × ForSome room (λ r. r < room_count) }
+    ensures by_index { (cs : List ℕ) (r : ℕ) → room ≡ within room_count r
+        → Done (coursed seen.entry.time seen.entry.packet.now r j.keep (j.take && ltb r room_count) cs (held (core_in times.old words.old) memory.old)) 62
         (core_in times.new words.new) cs memory.new numbers.old n numbers.new result }
     ensures moved { Moved times.old words.old times.new words.new }
 {
-    keep_room(words, room, keep);
-    if !take {
+    keep_room(words, room, j.keep);
+    if !j.take {
         return n;
     }
-    let at = h.payload;
+    let Some(room) = room else {
+        return n;
+    };
+    let h = seen.header;
     payloads::take_payload(
         times,
         words,
@@ -170,8 +163,8 @@ fn take_course(
         room,
         h.pid,
         h.start,
-        &packet[at..],
-        time,
+        &seen.packet[h.payload..],
+        seen.time,
         numbers,
         n,
     )
@@ -181,65 +174,56 @@ fn take_course(
 fn judge_counter(
     times: &mut [u64],
     words: &mut [u16],
-    time: u64,
-    packet: &[u8],
-    h: Header,
-    byte: u8,
+    seen: Seen,
     counters: &mut [u8],
     memory: &mut [u8; MEMORY],
     numbers: &mut [u64],
     n: usize,
 ) -> usize
-    requires sized { Sized times.old words.old × Ready (core_in times.old words.old) memory.old packet.now numbers.old n 63 }
-    requires read_off { ReadOff packet.now counters.old h byte × (h.pid < length counters.old) }
-    ensures done { Done (step4 time packet.now counters.old (held (core_in times.old words.old) memory.old)) 63
+    requires sized { Sized times.old words.old × Ready (core_in times.old words.old) memory.old seen.packet.now numbers.old n 63 }
+    requires read_off { ReadOff seen.packet.now counters.old seen.header seen.byte × (seen.header.pid < length counters.old) }
+    ensures done { Done (step4 seen.entry.time seen.entry.packet.now counters.old (held (core_in times.old words.old) memory.old)) 63
         (core_in times.new words.new) counters.new memory.new numbers.old n numbers.new result }
     ensures moved { Moved times.old words.old times.new words.new }
 {
-    let pid = h.pid as usize;
-    let j = continuity::judge(byte, h);
+    let h = seen.header;
+    let pid = usize::from(h.pid);
+    let j = continuity::judge(seen.byte, h);
     counters[pid] = j.byte;
     let room = room_for(words, h.pid);
-    let next = tell_continuity(j.event, time, h.pid, numbers, n);
+    let next = tell_continuity(j.event, seen.time, h.pid, numbers, n);
     if h.scrambled {
-        let last = judge_scrambled(words, time, h.pid, numbers, next);
+        let last = judge_scrambled(words, seen.time, h.pid, numbers, next);
         drop_room(words, room);
         return last;
     }
-    let take = j.take & (room < ROOMS);
-    take_course(
-        times, words, time, packet, h, room, j.keep, take, memory, numbers, next,
-    )
+    take_course(times, words, seen, room, j, memory, numbers, next)
 }
 
 // Steps 2 and 3, and what follows them.
 fn judge_header(
     times: &mut [u64],
     words: &mut [u16],
-    time: u64,
-    packet: &[u8],
-    h: Header,
-    byte: u8,
+    seen: Seen,
     counters: &mut [u8],
     memory: &mut [u8; MEMORY],
     numbers: &mut [u64],
     n: usize,
 ) -> usize
-    requires sized { Sized times.old words.old × Ready (core_in times.old words.old) memory.old packet.now numbers.old n 63 }
-    requires read_off { ReadOff packet.now counters.old h byte × (h.pid < length counters.old) }
-    ensures done { Done (step2 time packet.now counters.old (held (core_in times.old words.old) memory.old)) 63
+    requires sized { Sized times.old words.old × Ready (core_in times.old words.old) memory.old seen.packet.now numbers.old n 63 }
+    requires read_off { ReadOff seen.packet.now counters.old seen.header seen.byte × (seen.header.pid < length counters.old) }
+    ensures done { Done (step2 seen.entry.time seen.entry.packet.now counters.old (held (core_in times.old words.old) memory.old)) 63
         (core_in times.new words.new) counters.new memory.new numbers.old n numbers.new result }
     ensures moved { Moved times.old words.old times.new words.new }
 {
+    let h = seen.header;
     if h.error {
-        return events::put(numbers, n, time, TRANSPORT_ERROR, NO_CAUSE, h.pid);
+        return events::put(numbers, n, seen.time, TRANSPORT_ERROR, NO_CAUSE, h.pid);
     }
     if (h.pid == NULL_PID) | (h.control == 0) {
         return n;
     }
-    judge_counter(
-        times, words, time, packet, h, byte, counters, memory, numbers, n,
-    )
+    judge_counter(times, words, seen, counters, memory, numbers, n)
 }
 
 // A packet at a time, its header and the table byte of its PID: steps 1 to 5. Its events are laid from the place n on.
@@ -262,11 +246,16 @@ pub fn judge_packet(
     ensures latest_kept { LatestKept times.old times.new × SyncTold words.new }
 {
     let right = packet[0] == SYNC_BYTE;
-    let y = sync::judge_sync(words, right, time, h.pid, numbers, n);
-    if !y.further {
-        return y.n;
+    match sync::judge_sync(words, right, time, h.pid, numbers, n) {
+        ControlFlow::Continue(next) => {
+            let seen = Seen {
+                time,
+                packet,
+                header: h,
+                byte,
+            };
+            judge_header(times, words, seen, counters, memory, numbers, next)
+        }
+        ControlFlow::Break(next) => next,
     }
-    judge_header(
-        times, words, time, packet, h, byte, counters, memory, numbers, y.n,
-    )
 }

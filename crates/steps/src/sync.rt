@@ -1,13 +1,14 @@
-// Step 1 of document 01, "Judging one packet": sync.
+// Step 1 of document 01, "Judging one packet": sync. It answers the next place for an event, and by `Continue` that the packet is
+// judged further.
 ghost use Rattle.std.specs.Prelude.{◌≡◌, List, ℕ, ◌+◌, ◌≤◌, length};
 ghost use Rattle.events.specs.Capacity.{least_capacity, number_capacity};
 ghost use Rattle.calls.specs.Sync.{synced_of, in_sync, while_lost};
 ghost use Rattle.arrays.specs.Lent.{word_count, sync_run, core_in};
 ghost use Rattle.arrays.specs.inner.Kept.{SyncTold};
-ghost use Rattle.steps.specs.inner.Judging.{CaughtAs};
+ghost use Rattle.steps.specs.inner.Judging.{CaughtAs, goes_on, reached};
 
-use crate::Caught;
 use events::{NO_CAUSE, SYNC_BYTE_ERROR, SYNC_LOSS};
+use std::ops::ControlFlow;
 
 // Step 1 in sync.
 fn judge_in_sync(
@@ -17,32 +18,23 @@ fn judge_in_sync(
     pid: u16,
     numbers: &mut [u64],
     n: usize,
-) -> Caught
+) -> ControlFlow<usize, usize>
     requires { (length words.old ≡ word_count) × (n + 2 ≤ least_capacity) × (number_capacity ≤ length numbers.old) }
-    ensures { ((times : List ℕ) → CaughtAs (in_sync right (core_in times words.old)) time pid (core_in times words.new) result.further numbers.old n numbers.new result.n)
+    ensures { ((times : List ℕ) → CaughtAs (in_sync right (core_in times words.old)) time pid (core_in times words.new) (goes_on result) numbers.old n numbers.new (reached result))
         × SyncTold words.new }
 {
     if right {
         arrays::set_sync(words, false, 0);
-        return Caught {
-            n: n,
-            further: true,
-        };
+        return ControlFlow::Continue(n);
     }
     let next = events::put(numbers, n, time, SYNC_BYTE_ERROR, NO_CAUSE, pid);
     if arrays::sync_run(words) == 1 {
         arrays::set_sync(words, true, 0);
         arrays::drop_all(words);
-        return Caught {
-            n: events::put(numbers, next, time, SYNC_LOSS, NO_CAUSE, pid),
-            further: false,
-        };
+        return ControlFlow::Break(events::put(numbers, next, time, SYNC_LOSS, NO_CAUSE, pid));
     }
     arrays::set_sync(words, false, 1);
-    Caught {
-        n: next,
-        further: false,
-    }
+    ControlFlow::Break(next)
 }
 
 // Step 1 while sync is lost: no events.
@@ -72,16 +64,16 @@ pub(crate) fn judge_sync(
     pid: u16,
     numbers: &mut [u64],
     n: usize,
-) -> Caught
+) -> ControlFlow<usize, usize>
     requires { (length words.old ≡ word_count) × (n + 2 ≤ least_capacity) × (number_capacity ≤ length numbers.old) × (sync_run words.old ≤ 4) }
-    ensures { ((times : List ℕ) → CaughtAs (synced_of right (core_in times words.old)) time pid (core_in times words.new) result.further numbers.old n numbers.new result.n)
+    ensures { ((times : List ℕ) → CaughtAs (synced_of right (core_in times words.old)) time pid (core_in times words.new) (goes_on result) numbers.old n numbers.new (reached result))
         × SyncTold words.new }
 {
     if arrays::sync_lost(words) {
-        return Caught {
-            n: n,
-            further: judge_lost(words, right),
-        };
+        if judge_lost(words, right) {
+            return ControlFlow::Continue(n);
+        }
+        return ControlFlow::Break(n);
     }
     judge_in_sync(words, right, time, pid, numbers, n)
 }

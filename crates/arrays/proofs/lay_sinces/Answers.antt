@@ -1,29 +1,11 @@
 -- `arrays::lay_sinces` meets its contract. Assumes nothing.
 use borrow.Author.Rules.{rules}
-use mathlib.Core.Path.{refl, sym, ◌∙◌}
-use Prim.Native.Nat.{◌≤◌, ◌<◌}
-use native.Mathlib.Omega.{arith}
-use lib.ListN.{length, length-set}
-use mathlib.Core.List.{map}
-use Rattle.lists.proofs.Laying.{sets_none}
-use Rattle.watches.specs.declared.Entry.{Entry}
+use mathlib.Core.Path.{ap, ◌∙◌}
+use lib.Seq.{sets}
 use Rattle.watches.specs.Tables.{no_entry}
-use Rattle.arrays.proofs.Tabled.{length_map, sets_map_turn}
 use Rattle.arrays.specs.Lent.{sinces_at}
+use Rattle.arrays.proofs.Tabled.{mapped}
 use Rattle.arrays.proofs.lay_sinces.Goals as goal
 
-pub loop-k-init : goal.loop-k-init
-loop-k-init c = (omega arith, refl, refl)
-
-pub loop-k-preserved : goal.loop-k-preserved
-loop-k-preserved c =
-    let loop = c.loop-k in
-    let entries = c.args.entries in
-    let h : loop.k < length entries = omega arith in
-    (omega arith, simp length-set loop.invariant.1, loop.invariant.2 ∙ sets_map_turn (λ (e : Entry). e.since) _ sinces_at loop.k entries no_entry 0 h)
-
 pub returns : goal.returns
-returns c =
-    let entries = c.args.entries in
-    let h : length (map (λ (e : Entry). e.since) entries) ≤ c.loop-k.k = omega (arith, length_map (λ (e : Entry). e.since) entries) in
-    (sym (c.loop-k.invariant.2 ∙ sets_none _ _ c.loop-k.k _ h), search rules)
+returns c = c.lay.ensures ∙ ap (sets c.args.times.now sinces_at) (mapped (λ e. e.since) no_entry (λ p x y q k. search rules) (search rules) c.map.ensures.items)

@@ -1,5 +1,7 @@
 -- `arrays::lay_words` meets its contract. Assumes nothing.
+use borrow.Author.Rules.{rules}
 use mathlib.Core.Path.{◌∙◌}
+use Rattle.arrays.proofs.Back.{lost_told}
 use Rattle.arrays.proofs.Packing.{words_laid, words_length, words_whole}
 use Rattle.arrays.proofs.lay_words.Goals as goal
 
@@ -8,9 +10,7 @@ returns c =
     let start = c in
     let state = start.args.state in
     let words = start.args.words.now in
-    let places = c.lay_numbers.ensures.1 in
-    let halves = c.lay_halves.ensures in
-    c.lay_marks.ensures
-    ∙ rw (c.count_word-count.ensures, c.lost_word-lost.ensures, halves.0, c.lay_pids.ensures, c.lay_numbers.ensures.0)
-    (words_laid state places words halves.1)
-    ∙ words_whole state words (words_length state places halves.1) start.requires
+    c.lay.ensures
+    ∙ rw (c.from-run.ensures, c.from-lost.ensures ∙ lost_told state.core.lost, c.count_word.ensures, c.lay_halves.ensures.0, c.lay_pairs.ensures)
+    (words_laid state (search rules) words (search rules))
+    ∙ words_whole state words (words_length state (search rules) (search rules)) (search rules)

@@ -5,4 +5,4 @@ use Rattle.arrays.proofs.state_in.Goals as goal
 pub returns : goal.returns
 unfolding state_in
 returns c =
-    rw (c.run_in.ensures, c.gaps_in.ensures, c.size_of.ensures, c.entries_in.ensures, c.halves_in.ensures)
+    rw (c.sync_lost.ensures, c.sync_run.ensures, c.gaps_in.ensures, c.count_in.ensures, c.entries_in.ensures, c.halves_in.ensures)

@@ -9,6 +9,7 @@ use borrow.Author.Tests.{eq-eqb, ne_eqb}
 use Rattle.lists.proofs.Turns.{drop_turn, drop_none}
 use Rattle.watches.specs.Tables.{fixed_count, fixed_tables, pmt_table, table_of}
 use Rattle.calls.specs.Cores.{fixed_room}
+use Rattle.steps.proofs.Rooms.{within_here, within_none}
 use Rattle.steps.proofs.fixed_room.Goals as goal
 
 -- the table at hand has the PID, or the search goes on
@@ -24,24 +25,21 @@ none : (q k : ℕ) → fixed_count ≤ k → fixed_room q (drop k fixed_tables) 
 unfolding fixed_room
 none q k h = rw (drop_none fixed_tables k h)
 
-pub loop-k-init : goal.loop-k-init
-loop-k-init c = (omega arith, omega arith)
-
 pub returns-then-table_of-pid : goal.returns-then-table_of-pid
 returns-then-table_of-pid c =
     let loop = c.loop-k in
     let q = c.args.pid in
     let e : eqb (table_of loop.k).pid q ≡ true = eq-eqb _ _ (rw c.table_of.ensures at c.if-table_of-pid.true) in
-    omega (arith, loop.invariant.1, here q loop.k c.loop-k-test.true e)
+    within_here fixed_count (fixed_room q fixed_tables) loop.k (omega (arith, loop.invariant, here q loop.k c.loop-k-test.true e)) c.loop-k-test.true
 
 pub loop-k-preserved : goal.loop-k-preserved
 loop-k-preserved c =
     let loop = c.loop-k in
     let q = c.args.pid in
     let e : eqb (table_of loop.k).pid q ≡ false = ne_eqb _ _ (rw c.table_of.ensures at c.if-table_of-pid.false) in
-    (omega arith, omega (arith, loop.invariant.1, on q loop.k c.loop-k-test.true e))
+    omega (arith, loop.invariant, on q loop.k c.loop-k-test.true e)
 
 pub returns : goal.returns
 returns c =
     let q = c.args.pid in
-    omega (arith, c.loop-k.invariant.1, none q c.loop-k.k c.loop-k-test.false)
+    within_none fixed_count (fixed_room q fixed_tables) (omega (arith, c.loop-k.invariant, none q c.loop-k.k (omega arith)))

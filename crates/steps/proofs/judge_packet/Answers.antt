@@ -1,8 +1,8 @@
 -- `steps::judge_packet` meets its contract. Assumes nothing.
 use native.Mathlib.Omega.{arith}
-use mathlib.Core.Path.{ap, ◌∙◌}
+use mathlib.Core.Path.{refl, ap, ◌∙◌}
+use mathlib.Core.Bool.{true, false}
 use lib.ListN.{length}
-use borrow.Author.Tests.{not-true, not-false}
 use Rattle.lists.proofs.Laying.{laid_length}
 use Rattle.header.specs.Header.{right_sync}
 use Rattle.calls.specs.declared.Core.{Core}
@@ -13,17 +13,17 @@ use Rattle.steps.proofs.Doing.{fields, further_done, stopped_done}
 use Rattle.arrays.proofs.Kept.{latest_same, told_then}
 use Rattle.steps.proofs.judge_packet.Goals as goal
 
-pub returns-then-not-y : goal.returns-then-not-y
-returns-then-not-y c =
+pub returns-in-Break : goal.returns-in-Break
+returns-in-Break c =
     let start = c in
     let args = start.args in
     let packet = args.packet.now in
     let times = args.times.now in
     let core = core_in times args.words.now in
     let f = fields args.h packet start.requires.read_off.0.header in
-    let sync = c.judge_sync-y in
-    let caught = rw f.pid at (sync.ensures.0 times) in
-    record { done = stopped_done args.time packet args.counters.now core args.memory.now _ sync.result.further args.numbers.now args.n _ sync.result.n caught (not-true _ c.if-not-y.true); latest_kept = (latest_same start.requires.sized.0.long, sync.ensures.1) }
+    let sync = c.judge_sync in
+    let caught = rw (c.in-Break.is, f.pid) at (sync.ensures.0 times) in
+    record { done = stopped_done args.time packet args.counters.now core args.memory.now _ false args.numbers.now args.n _ c.in-Break.next caught refl; latest_kept = (latest_same start.requires.sized.0.long, sync.ensures.1) }
 
 pub judge_header-requires : goal.judge_header-requires
 judge_header-requires c =
@@ -33,8 +33,8 @@ judge_header-requires c =
     let times = args.times.now in
     let core = core_in times args.words.now in
     let f = fields args.h packet start.requires.read_off.0.header in
-    let sync = c.judge_sync-y in
-    let caught = rw f.pid at (sync.ensures.0 times) in
+    let sync = c.judge_sync in
+    let caught = rw (c.in-Continue.is, f.pid) at (sync.ensures.0 times) in
     let ready = start.requires.sized.1.ready in
     let right = right_sync packet in record {
       sized = (
@@ -51,15 +51,15 @@ judge_header-requires c =
       read_off = (start.requires.read_off.0, start.requires.read_off.1);
     }
 
-pub returns : goal.returns
-returns c =
+pub returns-in-Continue : goal.returns-in-Continue
+returns-in-Continue c =
     let start = c in
     let args = start.args in
     let packet = args.packet.now in
     let times = args.times.now in
     let core = core_in times args.words.now in
     let f = fields args.h packet start.requires.read_off.0.header in
-    let sync = c.judge_sync-y in
-    let caught = rw f.pid at (sync.ensures.0 times) in
+    let sync = c.judge_sync in
+    let caught = rw (c.in-Continue.is, f.pid) at (sync.ensures.0 times) in
     let header = c.judge_header.ensures in
-    record { done = further_done args.time packet args.counters.now core args.memory.now _ sync.result.further args.numbers.now args.n _ sync.result.n caught _ _ _ _ _ (not-false _ c.if-not-y.false) header.done; latest_kept = (header.moved.times, told_then sync.ensures.1 header.moved.words) }
+    record { done = further_done args.time packet args.counters.now core args.memory.now _ true args.numbers.now args.n _ c.in-Continue.next caught _ _ _ _ _ refl header.done; latest_kept = (header.moved.times, told_then sync.ensures.1 header.moved.words) }

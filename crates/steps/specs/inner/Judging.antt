@@ -6,9 +6,11 @@
 --   Done x most c table m before n after r == what the step x does, done: the core, the counter table and section memory that it leaves, and its
 --                                  events laid from the place n on, at most `most`; r is the next place
 --   fault_events t pid fs        == an event without a cause for each fault
+--   goes_on x, reached x         == what step 1 answers: whether the packet is judged further, the next place
 --   CaughtAs y t pid c on before n after r == what step 1 says, y, done in the same way: at most two events
 --   coursed t p r keep take cs h == behind step 4: what is half-built in the room r dropped, unless it is kept, and the payload taken, if it is
-use Rattle.std.specs.Prelude.{◌≡◌, Bool, true, cond, List, [], map, ℕ, ◌+◌, ◌≤◌, length}
+use Rattle.std.specs.Prelude.{◌≡◌, Bool, true, false, cond, List, [], map, ℕ, ◌+◌, ◌≤◌, length}
+use Rattle.std.proofs.Common.{ControlFlow, Continue, Break}
 use Rattle.events.specs.declared.Event.{Event}
 use Rattle.events.specs.Faults.{no_cause}
 use Rattle.events.specs.Events.{event_at, events_laid}
@@ -46,6 +48,14 @@ pub record Done (x : AfterStep) (most : ℕ) (c : Core) (table m before : List �
 
 abbrev pub fault_events : ℕ → ℕ → List ℕ → List Event
 fault_events t pid fs = map (λ f. event_at t f no_cause pid) fs
+
+abbrev pub goes_on : ControlFlow ℕ ℕ → Bool
+goes_on (Continue r) = true
+goes_on (Break r) = false
+
+abbrev pub reached : ControlFlow ℕ ℕ → ℕ
+reached (Continue r) = r
+reached (Break r) = r
 
 pub record CaughtAs (y : Synced) (t pid : ℕ) (c : Core) (on : Bool) (before : List ℕ) (n : ℕ) (after : List ℕ) (r : ℕ) : Type 0 where
   pub core : c ≡ y.core

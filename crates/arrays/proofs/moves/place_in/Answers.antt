@@ -1,46 +1,21 @@
 -- `arrays::moves/place_in` meets its contract. Assumes nothing.
 use native.Mathlib.Omega.{arith}
-use mathlib.Core.Path.{◌≡◌}
-use mathlib.Core.Bool.{true, false}
+use mathlib.Core.Path.{ap, ◌∙◌}
+use Prim.Native.Nat.{◌≤◌}
 use lib.Dec.{eqb}
-use lib.ListN.{get_or}
-use borrow.Author.Tests.{eq-eqb, ne_eqb}
-use Rattle.watches.specs.Tables.{no_entry}
-use Rattle.programmes.proofs.Searches.{place_here, place_on, place_none}
-use Rattle.arrays.specs.Lent.{count_in, entries_in}
-use Rattle.arrays.proofs.Stores.{entry_at, entries_length}
+use lib.ListN.{take, drop}
+use Rattle.std.specs.List.{position}
+use Rattle.lists.specs.Places.{part}
+use Rattle.programmes.specs.Listing.{most_listed}
+use Rattle.arrays.specs.Lent.{pids_at}
+use Rattle.arrays.proofs.Places.{place_found}
 use Rattle.arrays.proofs.moves.place_in.Goals as goal
 
-pub loop-i-init : goal.loop-i-init
-loop-i-init c = (omega arith, c.count_in-count.ensures, λ times. omega arith)
-
-pub returns-then-words-i : goal.returns-then-words-i
-returns-then-words-i c =
-    let loop = c.loop-i in
-    let start = c in
-    let words = start.args.words.now in
-    λ times.
-    let es = entries_in times words in
-    let here : eqb (get_or es loop.i no_entry).pid start.args.pid ≡ true = rw (entry_at times words loop.i (omega arith)) (eq-eqb _ _ c.if-words-i.true) in
-    omega (arith, loop.invariant.2 times, place_here es (count_in words) loop.i (omega (arith, entries_length times words)) start.args.pid (omega arith) here)
-
-pub loop-i-preserved : goal.loop-i-preserved
-loop-i-preserved c =
-    let loop = c.loop-i in
-    let start = c in
-    let words = start.args.words.now in (
-      omega arith,
-      loop.invariant.1,
-      λ times.
-          let es = entries_in times words in
-          let here : eqb (get_or es loop.i no_entry).pid start.args.pid ≡ false = rw (entry_at times words loop.i (omega arith)) (ne_eqb _ _ c.if-words-i.false) in
-          omega (arith, loop.invariant.2 times, place_on es (count_in words) loop.i (omega (arith, entries_length times words)) start.args.pid (omega arith) here),
-    )
-
 pub returns : goal.returns
+unfolding part
 returns c =
-    let loop = c.loop-i in
-    let start = c in
-    let words = start.args.words.now in
-    λ times.
-    omega (arith, loop.invariant.2 times, place_none (entries_in times words) (count_in words) loop.i (omega (arith, entries_length times words)) start.args.pid (omega arith))
+    let words = c.args.words.now in
+    let pid = c.args.pid in
+    let few : c.count_in.result ≤ most_listed = omega (arith, c.count_in.ensures, c.requires.1) in
+    let found = c.first_with.ensures ∙ ap (λ k. position (λ p. eqb p pid) (take k (drop pids_at words))) (omega arith) in
+    λ times. place_found times words pid c.count_in.result c.first_with.result c.count_in.ensures c.requires.0 few found
