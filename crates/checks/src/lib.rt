@@ -12,6 +12,7 @@ ghost use Rattle.programmes.specs.Listing.{most_listed};
 ghost use Rattle.calls.specs.Sound.{times_sound, number_among, entry_sound, entries_sound, rooms_from, rooms_sound, state_sound};
 ghost use Rattle.calls.specs.Calls.{open_refusal, clock_refusal};
 ghost use Rattle.arrays.specs.Lent.{entries_in, state_in, core_time_count, core_word_count};
+ghost use Rattle.checks.specs.Refusals.{number_of, number_in};
 ghost use Rattle.checks.specs.inner.Ladders.{sizes_refusal, state_refusal};
 
 use arrays::LATEST;
@@ -22,19 +23,37 @@ use programmes::{LOWEST_PID, MOST_LISTED};
 use sections::ROOMS;
 use watches::{Entry, FIXED, LATEST_TIME};
 
-// Whether none of the five gap starts is above 2^62.
+// Why a call is refused: the numbers 1 to 6.
+#[derive(Clone, Copy, PartialEq, Eq, Debug)]
+pub enum Refusal {
+    PacketSize,
+    TableSize,
+    FewRecords,
+    TimeTooLate,
+    UnknownState,
+    TimeBackwards,
+}
+
+impl From<Refusal> for u32 {
+    ghost from_gives = { λ r n. n ≡ number_of r };
+
+    fn from(refusal: Refusal) -> u32 {
+        match refusal {
+            Refusal::PacketSize => 1,
+            Refusal::TableSize => 2,
+            Refusal::FewRecords => 3,
+            Refusal::TimeTooLate => 4,
+            Refusal::UnknownState => 5,
+            Refusal::TimeBackwards => 6,
+        }
+    }
+}
+
+// Whether none of these gap starts is above 2^62.
 fn times_sound(since: &[u64]) -> bool
-    requires { length since.now ≡ fixed_count }
     ensures { result ≡ times_sound since.now }
 {
-    let mut k: usize = 0;
-    while k < FIXED {
-        if LATEST_TIME < since[k] {
-            return false;
-        }
-        k += 1;
-    }
-    true
+    since.iter().all(|&t| t <= LATEST_TIME)
 }
 
 // Whether a listed entry has a number, a PID within the bounds, and a gap start not above 2^62.
@@ -49,13 +68,10 @@ fn number_among(number: u16, times: &[u64], words: &[u16], count: usize, start: 
     requires { (core_time_count ≤ length times.now) × (core_word_count ≤ length words.now) × (count ≤ most_listed) × (start ≤ count) }
     ensures { result ≡ number_among number (drop start (take count (entries_in times.now words.now))) }
 {
-    let mut i = start;
-    while i < count {
-        let e = arrays::entry_at(times, words, i);
-        if e.number == number {
+    for i in start..count {
+        if arrays::entry_at(times, words, i).number == number {
             return true;
         }
-        i += 1;
     }
     false
 }
@@ -67,9 +83,7 @@ fn entries_sound(times: &[u64], words: &[u16], count: usize) -> bool
     ensures { result ≡ entries_sound (take count (entries_in times.now words.now)) }
 {
     let mut marks = [false; 64];
-    let mut i = count;
-    while 0 < i {
-        i -= 1;
+    for i in (0..count).rev() {
         let e = arrays::entry_at(times, words, i);
         if !entry_sound(e) {
             return false;
@@ -117,13 +131,7 @@ pub fn none_half(half: &[u16]) -> bool
     requires { length half.now ≡ room_count }
     ensures { result ≡ none_half half.now }
 {
-    let mut none = true;
-    let mut k: usize = 0;
-    while k < ROOMS {
-        none = none & (half[k] == 0);
-        k += 1;
-    }
-    none
+    half.iter().fold(true, |none, &n| none & (n == 0))
 }
 
 // A room from which on nothing is half-built.
@@ -146,12 +154,10 @@ pub fn rooms_sound(half: &[u16], memory: &[u8]) -> bool
         return true;
     }
     let top = rooms_used(half);
-    let mut room: usize = 0;
-    while room < top {
+    for room in 0..top {
         if !room_sound(memory, room, half[room]) {
             return false;
         }
-        room += 1;
     }
     true
 }
@@ -193,71 +199,69 @@ fn state_sound(times: &[u64], words: &[u16], memory: &[u8]) -> bool
     )
 }
 
-// The refusal of an opening; 0 where it is accepted.
-pub fn open_refusal(time: u64, counters: &[u8]) -> u32
-    ensures { result ≡ open_refusal time counters.now }
+// What is so, or the refusal where it is not.
+fn ensure(holds: bool, refusal: Refusal) -> Result<(), Refusal>
+    ensures { number_in result ≡ cond holds 0 (number_of refusal) }
 {
-    if counters.len() != TABLE_SIZE {
-        return 2;
-    }
-    if LATEST_TIME < time {
-        return 4;
-    }
-    0
+    if holds { Ok(()) } else { Err(refusal) }
 }
 
-// Refusals 1 to 4 of a packet call, for an event list of `capacity` records; 0 where none of them is given.
-pub fn sizes_refusal(time: u64, packet: &[u8], counters: &[u8], capacity: usize) -> u32
-    ensures { result ≡ sizes_refusal time packet.now counters.now capacity }
+// Whether an opening is accepted.
+#[tactic(auto, unfolding(calls::specs::Calls::open_refusal))]
+pub fn check_open(time: u64, counters: &[u8]) -> Result<(), Refusal>
+    ensures { number_in result ≡ open_refusal time counters.now }
 {
-    if packet.len() != PACKET_SIZE {
-        return 1;
-    }
-    if counters.len() != TABLE_SIZE {
-        return 2;
-    }
-    if capacity < LEAST_CAPACITY {
-        return 3;
-    }
-    if LATEST_TIME < time {
-        return 4;
-    }
-    0
+    ensure(counters.len() == TABLE_SIZE, Refusal::TableSize)?;
+    ensure(time <= LATEST_TIME, Refusal::TimeTooLate)
 }
 
-// Refusals 5 and 6 of a packet call, whose PID has a table byte; 0 where neither is given.
-pub fn state_refusal(times: &[u64], words: &[u16], time: u64, memory: &[u8], byte: u8) -> u32
+// Refusals 1 to 4 of a packet call, for an event list of `capacity` records.
+#[tactic(auto, unfolding(crate::specs::inner::Ladders::sizes_refusal))]
+pub fn check_sizes(
+    time: u64,
+    packet: &[u8],
+    counters: &[u8],
+    capacity: usize,
+) -> Result<(), Refusal>
+    ensures { number_in result ≡ sizes_refusal time packet.now counters.now capacity }
+{
+    ensure(packet.len() == PACKET_SIZE, Refusal::PacketSize)?;
+    ensure(counters.len() == TABLE_SIZE, Refusal::TableSize)?;
+    ensure(LEAST_CAPACITY <= capacity, Refusal::FewRecords)?;
+    ensure(time <= LATEST_TIME, Refusal::TimeTooLate)
+}
+
+// Refusals 5 and 6 of a packet call, whose PID has a table byte.
+#[tactic(auto, unfolding(crate::specs::inner::Ladders::state_refusal, arrays::specs::Lent::state_in))]
+pub fn check_state(
+    times: &[u64],
+    words: &[u16],
+    time: u64,
+    memory: &[u8],
+    byte: u8,
+) -> Result<(), Refusal>
     requires { (core_time_count ≤ length times.now) × (core_word_count ≤ length words.now) × (length memory.now ≡ memory_size) }
-    ensures { result ≡ state_refusal (state_in times.now words.now) time memory.now byte }
+    ensures { number_in result ≡ state_refusal (state_in times.now words.now) time memory.now byte }
 {
-    if !state_sound(times, words, memory) {
-        return 5;
-    }
-    if !continuity::known_byte(byte) {
-        return 5;
-    }
-    if time < times[LATEST] {
-        return 6;
-    }
-    0
+    ensure(state_sound(times, words, memory), Refusal::UnknownState)?;
+    ensure(continuity::known_byte(byte), Refusal::UnknownState)?;
+    ensure(times[LATEST] <= time, Refusal::TimeBackwards)
 }
 
-// The refusal of a clock call; 0 where it is accepted.
-pub fn clock_refusal(times: &[u64], words: &[u16], time: u64, memory: &[u8], capacity: usize) -> u32
+// Whether a clock call is accepted.
+#[tactic(auto, unfolding(calls::specs::Calls::clock_refusal, arrays::specs::Lent::state_in))]
+pub fn check_clock(
+    times: &[u64],
+    words: &[u16],
+    time: u64,
+    memory: &[u8],
+    capacity: usize,
+) -> Result<(), Refusal>
     requires { (core_time_count ≤ length times.now) × (core_word_count ≤ length words.now) × (length memory.now ≡ memory_size) }
-    ensures { result ≡ clock_refusal (state_in times.now words.now) time memory.now capacity }
+    ensures { number_in result ≡ clock_refusal (state_in times.now words.now) time memory.now capacity }
 {
-    if capacity < LEAST_CAPACITY {
-        return 3;
-    }
-    if LATEST_TIME < time {
-        return 4;
-    }
-    if !state_sound(times, words, memory) {
-        return 5;
-    }
-    if time < times[LATEST] {
-        return 6;
-    }
-    0
+    ensure(LEAST_CAPACITY <= capacity, Refusal::FewRecords)?;
+    ensure(time <= LATEST_TIME, Refusal::TimeTooLate)?;
+    ensure(state_sound(times, words, memory), Refusal::UnknownState)?;
+    ensure(times[LATEST] <= time, Refusal::TimeBackwards)
 }

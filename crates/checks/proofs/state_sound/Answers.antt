@@ -8,11 +8,10 @@ use lib.Dec.{leb}
 use lib.ListN.{length, take}
 use borrow.Author.Tests.{lt-leb, le-leb}
 use Rattle.lists.proofs.Places.{part_length}
-use Rattle.watches.specs.Tables.{fixed_count}
 use Rattle.sections.specs.Rooms.{room_count}
 use Rattle.programmes.specs.Listing.{most_listed}
 use Rattle.calls.specs.Sound.{times_sound, entries_sound, state_sound}
-use Rattle.arrays.specs.Lent.{gaps_in, count_in, entries_in, state_in, gaps_at, halves_at}
+use Rattle.arrays.specs.Lent.{gaps_in, count_in, entries_in, state_in, halves_at}
 use Rattle.arrays.specs.inner.Kept.{listed_in}
 use Rattle.checks.proofs.state_sound.Goals as goal
 
@@ -20,9 +19,6 @@ pub returns-then-times-gt-LATEST_TIME : goal.returns-then-times-gt-LATEST_TIME
 unfolding state_sound state_in
 returns-then-times-gt-LATEST_TIME c =
     rw (lt-leb _ _ c.if-times-gt-LATEST_TIME.true)
-
-pub times_sound-requires : goal.times_sound-requires
-times_sound-requires c = ap length c.gaps_of.ensures ∙ part_length c.args.times.now gaps_at fixed_count (omega arith)
 
 pub returns-then-not-times_sound : goal.returns-then-not-times_sound
 unfolding state_sound state_in
