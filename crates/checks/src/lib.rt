@@ -89,11 +89,8 @@ fn entries_sound(times: &[u64], words: &[u16], count: usize) -> bool
             return false;
         }
         let mark = (e.number % 64) as usize;
-        let marked = marks[mark];
-        if marked {
-            if number_among(e.number, times, words, count, i + 1) {
-                return false;
-            }
+        if marks[mark] && number_among(e.number, times, words, count, i + 1) {
+            return false;
         }
         marks[mark] = true;
     }
@@ -104,10 +101,7 @@ fn entries_sound(times: &[u64], words: &[u16], count: usize) -> bool
 fn run_sound(lost: bool, run: u8) -> bool
     ensures { result ≡ leb run (cond lost 4 1) }
 {
-    if lost {
-        return run <= 4;
-    }
-    run <= 1
+    run <= if lost { 4 } else { 1 }
 }
 
 // Whether the half-built bytes of a room are still to be built on. A given length may reach past the end
@@ -120,7 +114,7 @@ fn room_sound(memory: &[u8], room: usize, half: u16) -> bool
         return true;
     }
     let base = sections::room_base(room);
-    let n = sections::least(half as usize, memory.len() - base);
+    let n = (half as usize).min(memory.len() - base);
     let top = sections::greatest_length(room);
     let stage = sections::stage_of(&memory[base..base + n], top);
     sections::is_more(stage)
@@ -140,9 +134,10 @@ fn rooms_used(half: &[u16]) -> usize
     ensures { (result ≤ room_count) × ((m : List ℕ) → rooms_from half.now m result (room_count - result) ≡ true) }
 {
     if programmes::none_listed(half) {
-        return FIXED;
+        FIXED
+    } else {
+        ROOMS
     }
-    ROOMS
 }
 
 // Whether the half-built bytes of every room are still to be built on: mostly there are none.
@@ -167,36 +162,26 @@ fn rest_sound(lost: bool, run: u8, half: &[u16], memory: &[u8]) -> bool
     requires { (length half.now ≡ room_count) × (length memory.now ≡ memory_size) }
     ensures { result ≡ (leb run (cond lost 4 1) && rooms_sound half.now memory.now) }
 {
-    if !run_sound(lost, run) {
-        return false;
-    }
-    rooms_sound(half, memory)
+    run_sound(lost, run) && rooms_sound(half, memory)
 }
 
 // Whether the state is no ground for refusal 5.
+#[tactic(auto, unfolding(calls::specs::Sound::state_sound, arrays::specs::Lent::state_in))]
 fn state_sound(times: &[u64], words: &[u16], memory: &[u8]) -> bool
     requires { (core_time_count ≤ length times.now) × (core_word_count ≤ length words.now) × (length memory.now ≡ memory_size) }
     ensures { result ≡ state_sound (state_in times.now words.now) memory.now }
 {
-    if LATEST_TIME < times[LATEST] {
-        return false;
-    }
-    if !times_sound(arrays::gaps_of(times)) {
-        return false;
-    }
     let count = arrays::count_in(words);
-    if MOST_LISTED < count {
-        return false;
-    }
-    if !entries_sound(times, words, count) {
-        return false;
-    }
-    rest_sound(
-        arrays::sync_lost(words),
-        arrays::sync_run(words),
-        arrays::halves_of(words),
-        memory,
-    )
+    times[LATEST] <= LATEST_TIME
+        && times_sound(arrays::gaps_of(times))
+        && count <= MOST_LISTED
+        && entries_sound(times, words, count)
+        && rest_sound(
+            arrays::sync_lost(words),
+            arrays::sync_run(words),
+            arrays::halves_of(words),
+            memory,
+        )
 }
 
 // What is so, or the refusal where it is not.
