@@ -25,13 +25,6 @@ use watches::{
     EIT_LIMIT, Entry, LATEST_TIME, NIT_LIMIT, PAT_LIMIT, PMT_LIMIT, SDT_LIMIT, TDT_LIMIT,
 };
 
-// Whether a call is quiet, and then the byte of its PID in the counter table after steps 3 and 4.
-#[derive(Clone, Copy)]
-pub struct Glance {
-    pub quiet: bool,
-    pub byte: u8,
-}
-
 // Whether a gap start is not above 2^62 and its stamp does not fall due as time goes from p to t: of a watch with one limit.
 fn gap_quiet(since: u64, limit: u64, p: u64, t: u64) -> bool
     requires { limit ≤ latest_time }
@@ -49,19 +42,11 @@ fn tables_quiet(since: &[u64], p: u64, t: u64) -> bool
     requires { length since.now ≡ fixed_count }
     ensures { result ≡ rows_quiet p t (table_rows fixed_tables since.now) }
 {
-    if !gap_quiet(since[0], PAT_LIMIT, p, t) {
-        return false;
-    }
-    if !gap_quiet(since[1], NIT_LIMIT, p, t) {
-        return false;
-    }
-    if !gap_quiet(since[2], SDT_LIMIT, p, t) {
-        return false;
-    }
-    if !gap_quiet(since[3], EIT_LIMIT, p, t) {
-        return false;
-    }
-    gap_quiet(since[4], TDT_LIMIT, p, t)
+    gap_quiet(since[0], PAT_LIMIT, p, t)
+        && gap_quiet(since[1], NIT_LIMIT, p, t)
+        && gap_quiet(since[2], SDT_LIMIT, p, t)
+        && gap_quiet(since[3], EIT_LIMIT, p, t)
+        && gap_quiet(since[4], TDT_LIMIT, p, t)
 }
 
 // Whether a listed entry is one that refusal 5 passes, quiet, and on another PID than q.
@@ -81,8 +66,7 @@ fn entries_quiet(times: &[u64], words: &[u16], count: usize, p: u64, t: u64, q: 
     ensures { result ≡ entries_quiet p t q unmarked (take count (entries_in times.now words.now)) }
 {
     let mut marks = [false; 64];
-    let mut k: usize = 0;
-    while k < count {
+    for k in 0..count {
         let e = arrays::entry_at(times, words, k);
         if !entry_quiet(e, p, t, q) {
             return false;
@@ -92,7 +76,6 @@ fn entries_quiet(times: &[u64], words: &[u16], count: usize, p: u64, t: u64, q: 
             return false;
         }
         marks[mark] = true;
-        k += 1;
     }
     true
 }
@@ -116,32 +99,22 @@ fn rest_quiet(half: &[u16], memory: &[u8]) -> bool
     requires { (length half.now ≡ room_count) × (length memory.now ≡ memory_size) }
     ensures { result ≡ rooms_sound half.now memory.now }
 {
-    if checks::none_half(half) {
-        return true;
-    }
-    checks::rooms_sound(half, memory)
+    checks::none_half(half) || checks::rooms_sound(half, memory)
 }
 
 // Whether the state is quiet for a packet of the PID q.
+#[tactic(auto, unfolding(crate::specs::inner::Quiet::state_quiet, arrays::specs::Lent::state_in))]
 fn state_quiet(times: &[u64], words: &[u16], memory: &[u8], t: u64, q: u16) -> bool
     requires { (core_time_count ≤ length times.now) × (core_word_count ≤ length words.now) × (length memory.now ≡ memory_size) }
     ensures { result ≡ state_quiet (state_in times.now words.now) memory.now t q }
 {
     let count = arrays::count_in(words);
-    if !sync_quiet(arrays::sync_lost(words), arrays::sync_run(words), count) {
-        return false;
-    }
     let p = times[LATEST];
-    if !latest_quiet(p, t) {
-        return false;
-    }
-    if !rest_quiet(arrays::halves_of(words), memory) {
-        return false;
-    }
-    if !tables_quiet(arrays::gaps_of(times), p, t) {
-        return false;
-    }
-    entries_quiet(times, words, count, p, t, q)
+    sync_quiet(arrays::sync_lost(words), arrays::sync_run(words), count)
+        && latest_quiet(p, t)
+        && rest_quiet(arrays::halves_of(words), memory)
+        && tables_quiet(arrays::gaps_of(times), p, t)
+        && entries_quiet(times, words, count, p, t, q)
 }
 
 // Whether the packet is in sync and without a transport error, on a PID of elementary streams or the null PID.
@@ -158,45 +131,30 @@ fn is_idle(h: Header) -> bool
     (h.pid == NULL_PID) | (h.control == 0)
 }
 
-fn loud() -> Glance
-    ensures { result ≡ record { quiet = false; byte = 0 } }
-{
-    Glance {
-        quiet: false,
-        byte: 0,
-    }
-}
-
-// Whether the packet is one of which only the counter is looked at, with nothing to be said of it, by its header and the
-// byte of its PID in the counter table. Step 4 is judged here by the function that judges it for every other packet.
-fn count_quiet(packet: &[u8], h: Header, byte: u8) -> Glance
+// The byte of the packet's PID in the counter table after steps 3 and 4, where the packet is one of which only the counter is
+// looked at, with nothing to be said of it, by its header and the byte before. Step 4 is judged here by the function that
+// judges it for every other packet.
+#[tactic(auto, unfolding(header::specs::Header::header_of))]
+fn count_quiet(packet: &[u8], h: Header, byte: u8) -> Option<u8>
     requires { (length packet.now ≡ packet_size) × (h ≡ header_of packet.now) }
     ensures { result ≡ glance_of (count_quiet packet.now byte) packet.now byte }
 {
     if !head_quiet(packet[0], h) {
-        return loud();
+        return None;
     }
     if !continuity::known_byte(byte) {
-        return loud();
+        return None;
     }
     if is_idle(h) {
-        return Glance {
-            quiet: true,
-            byte: byte,
-        };
+        return Some(byte);
     }
     let j = continuity::judge(byte, h);
-    if j.event {
-        return loud();
-    }
-    Glance {
-        quiet: true,
-        byte: j.byte,
-    }
+    if j.event { None } else { Some(j.byte) }
 }
 
-// Whether nothing is to be said of a packet call that refusals 1 to 4 pass, by the packet's header and the byte of its PID
-// in the counter table.
+// The byte that a packet call leaves in the counter table, where refusals 1 to 4 pass it and nothing is to be said of it, by the
+// packet's header and the byte of its PID there.
+#[tactic(auto, unfolding(header::specs::Header::header_of))]
 pub fn quiet_packet(
     times: &[u64],
     words: &[u16],
@@ -205,17 +163,15 @@ pub fn quiet_packet(
     packet: &[u8],
     h: Header,
     byte: u8,
-) -> Glance
+) -> Option<u8>
     requires core_time_count_in_bounds { (core_time_count ≤ length times.now) × (core_word_count ≤ length words.now) × (length memory.now ≡ memory_size) }
     requires packet_len { (length packet.now ≡ packet_size) × (h ≡ header_of packet.now) }
     ensures { result ≡ glance_of (quiet_call (state_in times.now words.now) memory.now time packet.now byte) packet.now byte }
 {
-    let g = count_quiet(packet, h, byte);
-    if !g.quiet {
-        return g;
+    let left = count_quiet(packet, h, byte)?;
+    if state_quiet(times, words, memory, time, h.pid) {
+        Some(left)
+    } else {
+        None
     }
-    if !state_quiet(times, words, memory, time, h.pid) {
-        return loud();
-    }
-    g
 }

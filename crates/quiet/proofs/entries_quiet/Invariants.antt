@@ -1,5 +1,4 @@
 use mathlib.Core.Path.{◌≡◌}
-use Prim.Native.Nat.{◌-◌, ◌≤◌}
 use lib.ListN.{length, take, drop}
 use Rattle.arrays.specs.Lent.{entries_in}
 use Rattle.quiet.specs.inner.Quiet.{entries_quiet, unmarked}
@@ -7,9 +6,5 @@ use Rattle.quiet.proofs.entries_quiet.Given as goal
 
 abbrev pub invariant-loop-k : goal.invariant-loop-k
 invariant-loop-k l =
-    (l.k ≤ l.count)
-    × (length l.marks ≡ 64)
+    (length l.marks ≡ 64)
     × (entries_quiet l.p l.t l.q unmarked (take l.count (entries_in l.times l.words)) ≡ entries_quiet l.p l.t l.q l.marks (drop l.k (take l.count (entries_in l.times l.words))))
-
-abbrev pub decreases-loop-k : goal.decreases-loop-k
-decreases-loop-k l = l.count - l.k
