@@ -13,7 +13,19 @@ use Rattle.header.specs.Header.{packet_size, pid_of}
 use Rattle.calls.specs.declared.State.{State}
 use Rattle.calls.specs.Sound.{time_sound}
 use Rattle.calls.specs.Calls.{table_size, packet_wrong, table_wrong, capacity_wrong, time_wrong, packet_refusal}
+use Rattle.checks.specs.declared.Refusal.{Refusal}
+use Rattle.checks.specs.declared.Refusal.TheVariants.{PacketSize, TableSize, FewRecords, TimeTooLate, UnknownState, TimeBackwards}
+use Rattle.checks.specs.Refusals.{number_of}
 use Rattle.checks.specs.inner.Ladders.{sizes_refusal, Right, state_refusal}
+
+-- no refusal has the number 0
+pub number_given : (r : Refusal) → number_of r ≡ 0 → ⊥
+number_given PacketSize e = omega arith
+number_given TableSize e = omega arith
+number_given FewRecords e = omega arith
+number_given TimeTooLate e = omega arith
+number_given UnknownState e = omega arith
+number_given TimeBackwards e = omega arith
 
 -- the first half, with any number behind it: it is passed, or given whatever follows
 data Half (t : ℕ) (p counters : List ℕ) (capacity : ℕ) : Type 0 where
