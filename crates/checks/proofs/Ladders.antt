@@ -16,11 +16,11 @@ use Rattle.calls.specs.Sound.{time_sound}
 use Rattle.calls.specs.Calls.{table_size, packet_wrong, table_wrong, capacity_wrong, time_wrong, packet_refusal}
 use Rattle.checks.specs.declared.Refusal.{Refusal}
 use Rattle.checks.specs.declared.Refusal.TheVariants.{PacketSize, TableSize, FewRecords, TimeTooLate, UnknownState, TimeBackwards}
-use Rattle.checks.specs.Refusals.{number_of, number_in}
+use Rattle.checks.specs.Refusals.{refusal_number, number_in}
 use Rattle.checks.specs.inner.Ladders.{sizes_refusal, Right, state_refusal}
 
 -- no refusal has the number 0
-pub number_given : (r : Refusal) → number_of r ≡ 0 → ⊥
+pub number_given : (r : Refusal) → refusal_number r ≡ 0 → ⊥
 number_given PacketSize e = omega arith
 number_given TableSize e = omega arith
 number_given FewRecords e = omega arith

@@ -12,7 +12,7 @@ ghost use Rattle.programmes.specs.Listing.{most_listed};
 ghost use Rattle.calls.specs.Sound.{times_sound, number_among, entry_sound, entries_sound, rooms_from, rooms_sound, state_sound};
 ghost use Rattle.calls.specs.Calls.{open_refusal, clock_refusal};
 ghost use Rattle.arrays.specs.Lent.{entries_in, state_in, core_time_count, core_word_count};
-ghost use Rattle.checks.specs.Refusals.{number_of, number_in};
+ghost use Rattle.checks.specs.Refusals.{refusal_number, number_in};
 ghost use Rattle.checks.specs.inner.Ladders.{sizes_refusal, state_refusal};
 
 use arrays::LATEST;
@@ -35,7 +35,7 @@ pub enum Refusal {
 }
 
 impl From<Refusal> for u32 {
-    ghost from_gives = { λ r n. n ≡ number_of r };
+    ghost from_gives = { λ r n. n ≡ refusal_number r };
 
     fn from(refusal: Refusal) -> u32 {
         match refusal {
@@ -186,7 +186,7 @@ fn state_sound(times: &[u64], words: &[u16], memory: &[u8]) -> bool
 
 // What is so, or the refusal where it is not.
 fn ensure(holds: bool, refusal: Refusal) -> Result<(), Refusal>
-    ensures { number_in result ≡ cond holds 0 (number_of refusal) }
+    ensures { number_in result ≡ cond holds 0 (refusal_number refusal) }
 {
     if holds { Ok(()) } else { Err(refusal) }
 }

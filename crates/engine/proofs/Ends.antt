@@ -32,7 +32,7 @@ use Rattle.arrays.specs.inner.Kept.{Sized}
 use Rattle.arrays.specs.Replies.{times_after, words_after}
 use Rattle.payloads.specs.inner.Taking.{held}
 use Rattle.checks.specs.declared.Refusal.{Refusal}
-use Rattle.checks.specs.Refusals.{number_of}
+use Rattle.checks.specs.Refusals.{refusal_number}
 use Rattle.checks.specs.inner.Ladders.{sizes_refusal, Right}
 use Rattle.checks.proofs.Ladders.{number_given, sizes_given}
 use Rattle.steps.specs.inner.Judging.{Done}
@@ -100,9 +100,9 @@ module _ (times words : List ℕ) (t : ℕ) (p counters m : List ℕ) (capacity 
       (ap (λ (n : ℕ). told n 0) e, refl, refl, refl, refl, numbered_none before)
 
   -- by what is read of the packet first
-  pub packet_refused_early : (r : Refusal) → number_of r ≡ sizes_refusal t p counters capacity → PacketLaid called (replied (Err r)) times times words words counters m before before
+  pub packet_refused_early : (r : Refusal) → refusal_number r ≡ sizes_refusal t p counters capacity → PacketLaid called (replied (Err r)) times times words words counters m before before
   packet_refused_early r e =
-      packet_refused (number_of r) (e ∙ sym (sizes_given (state_in times words) t p counters m capacity (λ z. number_given r (e ∙ z)))) (number_given r)
+      packet_refused (refusal_number r) (e ∙ sym (sizes_given (state_in times words) t p counters m capacity (λ z. number_given r (e ∙ z)))) (number_given r)
 
   -- a quiet one: nothing but one table byte and the latest time changes
   pub packet_quiet : Sized times words → Right t p counters capacity → (table : List ℕ) → quiet_call (state_in times words) m t p (get_or counters (pid_of p) 0) ≡ true → table ≡ counted_table p counters

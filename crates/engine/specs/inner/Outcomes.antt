@@ -10,17 +10,17 @@ use Rattle.calls.specs.declared.State.{State}
 use Rattle.calls.specs.declared.Answer.{Answer}
 use Rattle.arrays.specs.declared.Reply.{Reply}
 use Rattle.checks.specs.declared.Refusal.{Refusal}
-use Rattle.checks.specs.Refusals.{number_of}
+use Rattle.checks.specs.Refusals.{refusal_number}
 use Rattle.checks.specs.inner.Ladders.{sizes_refusal, Right}
 
 abbrev pub replied : Result ℕ Refusal → Reply
 replied (Ok n) = record { refusal = 0; n = n }
-replied (Err r) = record { refusal = number_of r; n = 0 }
+replied (Err r) = record { refusal = refusal_number r; n = 0 }
 
 abbrev pub answered : State → Result (ℕ × State) Refusal → Answer
 answered s (Ok x) = record { refusal = 0; n = x.0; state = x.1 }
-answered s (Err r) = record { refusal = number_of r; n = 0; state = s }
+answered s (Err r) = record { refusal = refusal_number r; n = 0; state = s }
 
 abbrev pub ReadIn : Result (Header × ℕ) Refusal → ℕ → List ℕ → List ℕ → ℕ → Type 0
 ReadIn (Ok x) t p counters capacity = Right t p counters capacity × ReadOff p counters x.0 x.1 × (x.0.pid < 8192)
-ReadIn (Err r) t p counters capacity = number_of r ≡ sizes_refusal t p counters capacity
+ReadIn (Err r) t p counters capacity = refusal_number r ≡ sizes_refusal t p counters capacity

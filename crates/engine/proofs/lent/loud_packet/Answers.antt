@@ -15,7 +15,7 @@ use Rattle.arrays.specs.Lent.{state_in}
 use Rattle.arrays.specs.inner.Kept.{Sized}
 use Rattle.arrays.proofs.Shapes.{packet_small, held_typed}
 use Rattle.arrays.proofs.Same.{times_same, told_same}
-use Rattle.checks.specs.Refusals.{number_of}
+use Rattle.checks.specs.Refusals.{refusal_number}
 use Rattle.checks.specs.inner.Ladders.{state_refusal}
 use Rattle.checks.proofs.Ladders.{number_given, right_passed}
 use Rattle.engine.proofs.Ends.{sound_rooms, sound_run, packet_refused, packet_done}
@@ -31,10 +31,10 @@ returns-in_err-check_state c =
     let memory = args.memory.now in
     let s = state_in times words in
     let r = c.in_err-check_state.field-0.0 in
-    let given : number_of r ≡ state_refusal s args.time memory args.byte = c.in_err-check_state.ensures in
+    let given : refusal_number r ≡ state_refusal s args.time memory args.byte = c.in_err-check_state.ensures in
     let number = given ∙ ap (state_refusal s args.time memory) c.requires.1.byte ∙ sym (right_passed s args.time packet counters memory args.capacity c.requires.0) in
     let same : c.from_residual.result ≡ Err r = search rules in
-    rw same (packet_refused times words args.time packet counters memory args.capacity args.numbers.now (number_of r) number (number_given r))
+    rw same (packet_refused times words args.time packet counters memory args.capacity args.numbers.now (refusal_number r) number (number_given r))
 
 pub judge_late-late-requires : goal.judge_late-late-requires
 unfolding state_in

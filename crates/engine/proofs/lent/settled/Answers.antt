@@ -6,7 +6,7 @@ use Rattle.std.specs.Prelude.{Err}
 use Rattle.calls.proofs.Accepted.{clock_accepted, sound_parts, entry_since}
 use Rattle.arrays.specs.Lent.{state_in}
 use Rattle.arrays.specs.inner.Kept.{Sized}
-use Rattle.checks.specs.Refusals.{number_of}
+use Rattle.checks.specs.Refusals.{refusal_number}
 use Rattle.checks.proofs.Ladders.{number_given}
 use Rattle.engine.proofs.Ends.{sound_run, clock_refused, clock_done}
 use Rattle.engine.proofs.lent.settled.Goals as goal
@@ -18,7 +18,7 @@ returns-in_err-check_clock c =
     let words = args.words.now in
     let r = c.in_err-check_clock.field-0.0 in
     let same : c.from_residual.result ≡ Err r = search rules in
-    rw same (clock_refused times words args.time args.memory.now args.capacity args.numbers.now (number_of r) c.in_err-check_clock.ensures (number_given r))
+    rw same (clock_refused times words args.time args.memory.now args.capacity args.numbers.now (refusal_number r) c.in_err-check_clock.ensures (number_given r))
 
 pub judge_late-late-requires : goal.judge_late-late-requires
 unfolding state_in
