@@ -1,10 +1,10 @@
 // A packet call of which nothing is to be said, seen at a glance: most packets of a stream are elementary data of which
 // the engine only counts, and then the call is two stores. What is not seen at a glance is left to the call itself. The
-// same of a state by value is in `value`.
+// state may stand in the lent arrays or be a value: `standing` has what is asked of it.
 
 #![tactic(auto)]
 
-mod value;
+mod standing;
 
 ghost use Rattle.std.specs.Prelude.{◌≡◌, ◌≤◌, false, not, ◌&&◌, ◌||◌, [], ◌∷◌, eqb, leb, length, take};
 ghost use Rattle.watches.specs.Tables.{fixed_tables, latest_time, fixed_count};
@@ -13,14 +13,14 @@ ghost use Rattle.header.specs.Header.{packet_size, sync_byte, header_of};
 ghost use Rattle.sections.specs.Rooms.{memory_size, room_count};
 ghost use Rattle.programmes.specs.Listing.{lowest_pid, null_pid, most_listed};
 ghost use Rattle.calls.specs.Sound.{rooms_sound};
-ghost use Rattle.arrays.specs.Lent.{entries_in, state_in, core_time_count, core_word_count};
+ghost use Rattle.arrays.specs.Lent.{state_in, core_time_count, core_word_count};
+ghost use Rattle.arrays.specs.inner.Kept.{Typed};
 ghost use Rattle.quiet.specs.inner.Quiet.{gap_quiet, rows_quiet, entry_quiet, entries_quiet, unmarked, latest_quiet, state_quiet, count_quiet, quiet_call, glance_of};
 
-use arrays::LATEST;
-use calls::GREATEST_PID;
+use calls::{GREATEST_PID, State};
 use header::{Header, SYNC_BYTE};
 use programmes::{LOWEST_PID, MOST_LISTED, NULL_PID};
-pub use value::quiet_value;
+use standing::{Standing, View};
 use watches::{
     EIT_LIMIT, Entry, LATEST_TIME, NIT_LIMIT, PAT_LIMIT, PMT_LIMIT, SDT_LIMIT, TDT_LIMIT,
 };
@@ -61,13 +61,13 @@ fn entry_quiet(e: Entry, p: u64, t: u64, q: u16) -> bool
 }
 
 // Whether the listed entries are, with no two numbers of the same remainder.
-fn entries_quiet(times: &[u64], words: &[u16], count: usize, p: u64, t: u64, q: u16) -> bool
-    requires { (core_time_count ≤ length times.now) × (core_word_count ≤ length words.now) × (count ≤ most_listed) }
-    ensures { result ≡ entries_quiet p t q unmarked (take count (entries_in times.now words.now)) }
+fn entries_quiet<S: Standing>(standing: &S, count: usize, p: u64, t: u64, q: u16) -> bool
+    requires { (count ≤ most_listed) × (length (S.state standing.now).core.entries ≡ most_listed) }
+    ensures { result ≡ entries_quiet p t q unmarked (take count (S.state standing.now).core.entries) }
 {
     let mut marks = [false; 64];
     for k in 0..count {
-        let e = arrays::entry_at(times, words, k);
+        let e = standing.entry(k);
         if !entry_quiet(e, p, t, q) {
             return false;
         }
@@ -103,18 +103,18 @@ fn rest_quiet(half: &[u16], memory: &[u8]) -> bool
 }
 
 // Whether the state is quiet for a packet of the PID q.
-#[tactic(auto, unfolding(crate::specs::inner::Quiet::state_quiet, arrays::specs::Lent::state_in))]
-fn state_quiet(times: &[u64], words: &[u16], memory: &[u8], t: u64, q: u16) -> bool
-    requires { (core_time_count ≤ length times.now) × (core_word_count ≤ length words.now) × (length memory.now ≡ memory_size) }
-    ensures { result ≡ state_quiet (state_in times.now words.now) memory.now t q }
+#[tactic(auto, unfolding(crate::specs::inner::Quiet::state_quiet))]
+fn state_quiet<S: Standing>(standing: &S, memory: &[u8], t: u64, q: u16) -> bool
+    requires { (length (S.state standing.now).core.entries ≡ most_listed) × (length memory.now ≡ memory_size) }
+    ensures { result ≡ state_quiet (S.state standing.now) memory.now t q }
 {
-    let count = arrays::count_in(words);
-    let p = times[LATEST];
-    sync_quiet(arrays::sync_lost(words), arrays::sync_run(words), count)
+    let count = standing.count();
+    let p = standing.latest();
+    sync_quiet(standing.lost(), standing.run(), count)
         && latest_quiet(p, t)
-        && rest_quiet(arrays::halves_of(words), memory)
-        && tables_quiet(arrays::gaps_of(times), p, t)
-        && entries_quiet(times, words, count, p, t, q)
+        && rest_quiet(standing.halves(), memory)
+        && tables_quiet(standing.gaps(), p, t)
+        && entries_quiet(standing, count, p, t, q)
 }
 
 // Whether the packet is in sync and without a transport error, on a PID of elementary streams or the null PID.
@@ -155,6 +155,26 @@ fn count_quiet(packet: &[u8], h: Header, byte: u8) -> Option<u8>
 // The byte that a packet call leaves in the counter table, where refusals 1 to 4 pass it and nothing is to be said of it, by the
 // packet's header and the byte of its PID there.
 #[tactic(auto, unfolding(header::specs::Header::header_of))]
+fn glance<S: Standing>(
+    standing: &S,
+    memory: &[u8],
+    time: u64,
+    packet: &[u8],
+    h: Header,
+    byte: u8,
+) -> Option<u8>
+    requires { (length (S.state standing.now).core.entries ≡ most_listed) × (length memory.now ≡ memory_size) × (length packet.now ≡ packet_size) × (h ≡ header_of packet.now) }
+    ensures { result ≡ glance_of (quiet_call (S.state standing.now) memory.now time packet.now byte) packet.now byte }
+{
+    let left = count_quiet(packet, h, byte)?;
+    if state_quiet(standing, memory, time, h.pid) {
+        Some(left)
+    } else {
+        None
+    }
+}
+
+// That of a call on lent arrays.
 pub fn quiet_packet(
     times: &[u64],
     words: &[u16],
@@ -168,10 +188,20 @@ pub fn quiet_packet(
     requires packet_len { (length packet.now ≡ packet_size) × (h ≡ header_of packet.now) }
     ensures { result ≡ glance_of (quiet_call (state_in times.now words.now) memory.now time packet.now byte) packet.now byte }
 {
-    let left = count_quiet(packet, h, byte)?;
-    if state_quiet(times, words, memory, time, h.pid) {
-        Some(left)
-    } else {
-        None
-    }
+    glance(&View { times, words }, memory, time, packet, h, byte)
+}
+
+// That of a call on a state by value.
+pub fn quiet_value(
+    state: State,
+    memory: &[u8],
+    time: u64,
+    packet: &[u8],
+    h: Header,
+    byte: u8,
+) -> Option<u8>
+    requires { Typed state × (length memory.now ≡ memory_size) × (length packet.now ≡ packet_size) × (h ≡ header_of packet.now) }
+    ensures { result ≡ glance_of (quiet_call state memory.now time packet.now byte) packet.now byte }
+{
+    glance(&state, memory, time, packet, h, byte)
 }
