@@ -39,8 +39,14 @@ fn reply(outcome: Result<usize, Refusal>) -> Reply
 }
 
 // The late events of the listed programmes, in list order, laid from the place n on; the next place.
-fn late_entries(times: &[u64], words: &[u16], time: u64, numbers: &mut [u64], n: usize) -> usize
-    requires { Sized times.now words.now × (n + most_listed ≤ least_capacity) × (number_capacity ≤ length numbers.old) × (count_in words.now ≤ most_listed)
+fn late_entries(
+    times: &[u64; TIMES],
+    words: &[u16; WORDS],
+    time: u64,
+    numbers: &mut [u64; NUMBERS],
+    n: usize,
+) -> usize
+    requires { (n + most_listed ≤ least_capacity) × (count_in words.now ≤ most_listed)
         × ((k : ℕ) → k < count_in words.now → (get_or (entries_in times.now words.now) k no_entry).since ≤ latest_time) }
     ensures { (result ≡ n + length (rows_late (get_or times.now latest_at 0) time (entry_rows (listed_in times.now words.now))))
         × (numbers.new ≡ events_laid numbers.old n (rows_late (get_or times.now latest_at 0) time (entry_rows (listed_in times.now words.now))))
@@ -57,8 +63,13 @@ fn late_entries(times: &[u64], words: &[u16], time: u64, numbers: &mut [u64], n:
 }
 
 // The late events of a call, laid first; how many there are.
-fn judge_late(times: &[u64], words: &[u16], time: u64, numbers: &mut [u64]) -> usize
-    requires { Sized times.now words.now × (number_capacity ≤ length numbers.old) × (count_in words.now ≤ most_listed) × ((k : ℕ) → get_or (gaps_in times.now) k 0 ≤ latest_time)
+fn judge_late(
+    times: &[u64; TIMES],
+    words: &[u16; WORDS],
+    time: u64,
+    numbers: &mut [u64; NUMBERS],
+) -> usize
+    requires { (count_in words.now ≤ most_listed) × ((k : ℕ) → get_or (gaps_in times.now) k 0 ≤ latest_time)
         × ((k : ℕ) → k < count_in words.now → (get_or (entries_in times.now words.now) k no_entry).since ≤ latest_time) }
     ensures { (result ≡ length (late_of (get_or times.now latest_at 0) time (core_in times.now words.now)))
         × (numbers.new ≡ events_laid numbers.old 0 (late_of (get_or times.now latest_at 0) time (core_in times.now words.now)))
@@ -134,7 +145,8 @@ fn synced_packet(
     )
 }
 
-// A packet call that is not quiet, made in all its steps.
+// A packet call that is not quiet, made in all its steps: a function of its own, since two calls of one would be folded, and the
+// packet's first byte be read no earlier than the rest.
 fn other_packet(
     times: &mut [u64; TIMES],
     words: &mut [u16; WORDS],

@@ -22,8 +22,8 @@ late_entry-m-requires c =
     let words = start.args.words.now in
     let same = c.entry_at-e.ensures ∙ sym (entry_at times words loop.k (omega arith)) in (
       omega (arith, entries_most (get_or times latest_at 0) start.args.time loop.k (entries_in times words)),
-      rw (loop.invariant.2, laid_length) start.requires.2,
-      rw same (start.requires.4 loop.k (omega arith)),
+      omega (arith, ap length loop.invariant.2 ∙ laid_length _ _ _ _ _),
+      rw same (start.requires.2 loop.k (omega arith)),
     )
 
 pub loop-k-preserved : goal.loop-k-preserved
@@ -37,9 +37,6 @@ loop-k-preserved c =
     let w = laid_turn numbers_of record_width (λ e. refl) _ _ _ _ _ _ _ _ loop.invariant.1 loop.invariant.2 late.0 late.1 in
     rw (entries_turn (get_or times latest_at 0) start.args.time loop.k (entries_in times words) (omega (arith, entries_length times words)))
     (loop.invariant.0, w.0, w.1, below_more _ _ loop.invariant.3 late.2)
-
-pub shape_of-numbers : goal.shape_of-numbers
-shape_of-numbers c = ap length c.loop-k.invariant.2 ∙ laid_length _ _ _ _ _
 
 pub returns : goal.returns
 returns c =

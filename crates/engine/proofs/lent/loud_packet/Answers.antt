@@ -42,7 +42,6 @@ judge_late-late-requires c =
     let args = c.args in
     let times = args.times.now in
     let words = args.words.now in
-    let sized : Sized times words = record { long = omega arith; wide = omega arith } in
     let packet = args.packet.now in
     let counters = args.counters.now in
     let memory = args.memory.now in
@@ -50,7 +49,7 @@ judge_late-late-requires c =
     let e : packet_refusal s args.time packet counters memory args.capacity ≡ 0 = right_passed s args.time packet counters memory args.capacity c.requires.0 ∙ ap (state_refusal s args.time memory) (sym c.requires.1.byte) ∙ sym c.in_ok-check_state.ensures in
     let a = packet_accepted s args.time packet counters memory args.capacity e in
     let h = sound_parts s memory a.sound in
-    (sized, omega arith, h.count, h.since, entry_since s memory h)
+    (h.count, h.since, entry_since s memory h)
 
 pub judge_packet-n-requires-clause-sized : goal.judge_packet-n-requires-clause-sized
 unfolding state_in

@@ -26,11 +26,10 @@ judge_late-late-requires c =
     let args = c.args in
     let times = args.times.now in
     let words = args.words.now in
-    let sized : Sized times words = record { long = omega arith; wide = omega arith } in
     let e = sym c.in_ok-check_clock.ensures in
     let a = clock_accepted (state_in times words) args.time args.memory.now args.capacity e in
     let h = sound_parts (state_in times words) args.memory.now a.sound in
-    (sized, omega arith, h.count, h.since, entry_since (state_in times words) args.memory.now h)
+    (h.count, h.since, entry_since (state_in times words) args.memory.now h)
 
 pub settle-requires : goal.settle-requires
 unfolding state_in
@@ -49,7 +48,6 @@ returns c =
     let args = c.args in
     let times = args.times.now in
     let words = args.words.now in
-    let sized : Sized times words = record { long = omega arith; wide = omega arith } in
     let e = sym c.in_ok-check_clock.ensures in
     let a = clock_accepted (state_in times words) args.time args.memory.now args.capacity e in
     let h = sound_parts (state_in times words) args.memory.now a.sound in
