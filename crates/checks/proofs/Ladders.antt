@@ -1,19 +1,55 @@
 -- The two halves of a packet call's ladder, joined. Assumes nothing.
-use mathlib.Core.Path.{◌≡◌, refl, sym, ◌∙◌}
+use mathlib.Core.Path.{◌≡◌, refl, sym, ap, ◌∙◌}
 use mathlib.Core.Bool.{Bool, true, false}
 use mathlib.Core.List.{List}
-use Prim.Native.Nat.{ℕ}
+use Prim.Native.Nat.{ℕ, zero, suc}
 use native.Mathlib.Omega.{arith}
 use lib.Dec.{ltb, eqb}
 use lib.ListN.{length, get_or}
 use borrow.Author.Tests.{ltb-false, leb-true, eqb-true, le-ltb, le-leb, eq-eqb}
+use Rattle.std.specs.Prelude.{Result, Ok, Err}
 use Rattle.events.specs.Capacity.{least_capacity}
 use Rattle.watches.specs.Tables.{latest_time}
 use Rattle.header.specs.Header.{packet_size, pid_of}
 use Rattle.calls.specs.declared.State.{State}
 use Rattle.calls.specs.Sound.{time_sound}
 use Rattle.calls.specs.Calls.{table_size, packet_wrong, table_wrong, capacity_wrong, time_wrong, packet_refusal}
+use Rattle.checks.specs.declared.Refusal.{Refusal}
+use Rattle.checks.specs.declared.Refusal.TheVariants.{PacketSize, TableSize, FewRecords, TimeTooLate, UnknownState, TimeBackwards}
+use Rattle.checks.specs.Refusals.{refusal_number, number_in}
 use Rattle.checks.specs.inner.Ladders.{sizes_refusal, Right, state_refusal}
+
+-- no refusal has the number 0
+pub number_given : (r : Refusal) → refusal_number r ≡ 0 → ⊥
+number_given PacketSize e = omega arith
+number_given TableSize e = omega arith
+number_given FewRecords e = omega arith
+number_given TimeTooLate e = omega arith
+number_given UnknownState e = omega arith
+number_given TimeBackwards e = omega arith
+
+-- an outcome is told by its number
+outcome_at : ℕ → Result (Unit {0}) Refusal
+outcome_at zero = Ok tt
+outcome_at (suc zero) = Err PacketSize
+outcome_at (suc (suc zero)) = Err TableSize
+outcome_at (suc (suc (suc zero))) = Err FewRecords
+outcome_at (suc (suc (suc (suc zero)))) = Err TimeTooLate
+outcome_at (suc (suc (suc (suc (suc zero))))) = Err UnknownState
+outcome_at (suc (suc (suc (suc (suc (suc n)))))) = Err TimeBackwards
+
+outcome_back : (x : Result (Unit {0}) Refusal) → outcome_at (number_in x) ≡ x
+unfolding outcome_at
+outcome_back (Ok x) = refl
+outcome_back (Err PacketSize) = refl
+outcome_back (Err TableSize) = refl
+outcome_back (Err FewRecords) = refl
+outcome_back (Err TimeTooLate) = refl
+outcome_back (Err UnknownState) = refl
+outcome_back (Err TimeBackwards) = refl
+
+pub same_outcome : (x y : Result (Unit {0}) Refusal) → number_in x ≡ number_in y → x ≡ y
+same_outcome x y e = sym (outcome_back x) ∙ ap outcome_at e ∙ outcome_back y
 
 -- the first half, with any number behind it: it is passed, or given whatever follows
 data Half (t : ℕ) (p counters : List ℕ) (capacity : ℕ) : Type 0 where

@@ -1,33 +1,53 @@
 -- The check of the state, one turn of each loop at a time: what is still to be checked begins with what is at hand. Assumes nothing.
-use mathlib.Core.Path.{◌≡◌, sym, ap, ◌∙◌}
-use mathlib.Core.Bool.{true, false, ◌&&◌, and-false}
-use mathlib.Core.List.{List}
-use Prim.Native.Nat.{ℕ, suc, ◌+◌, ◌-◌, ◌≤◌, ◌<◌}
+use mathlib.Core.Path.{◌≡◌, refl, sym, ap, ◌∙◌}
+use mathlib.Core.Bool.{Bool, true, false, ◌&&◌, and-false}
+use mathlib.Core.List.{List, [], ◌∷◌, ◌++◌}
+use Prim.Native.Nat.{ℕ, zero, suc, ◌+◌, ◌-◌, ◌≤◌, ◌<◌}
 use native.Mathlib.Omega.{arith}
-use lib.Dec.{eqb}
+use lib.Dec.{eqb, leb}
 use lib.ListN.{length, get_or, take, drop, length-drop}
 use lib.Seq.{take_all}
 use borrow.Author.Tests.{lt-leb, le-leb}
+use Rattle.std.specs.Bool.{MatchBool}
+use Rattle.std.specs.List.{AllWithin, HoldsAt}
 use Rattle.lists.specs.Places.{part}
 use Rattle.lists.proofs.Tests.{Order, below, from, order}
-use Rattle.lists.proofs.Turns.{drop_turn, drop_none, left_turn, left_none}
+use Rattle.lists.proofs.Turns.{left_turn, left_none}
 use Rattle.watches.specs.declared.Entry.{Entry}
 use Rattle.watches.specs.Tables.{no_entry, latest_time}
+use Rattle.programmes.specs.inner.Moving.{none_half}
 use Rattle.calls.specs.Sound.{times_sound, number_among, entry_sound, entries_sound, room_sound, rooms_from}
 
 -- TIMES
-module _ (ts : List ℕ) (k : ℕ) where
-  pub times_here : k < length ts → latest_time < get_or ts k 0 → times_sound (drop k ts) ≡ false
-  unfolding times_sound
-  times_here h l = rw (drop_turn ts k 0 h, lt-leb (get_or ts k 0) latest_time l)
+-- what a look at each of them tells
+pub times_told : (ts : List ℕ) (b : Bool) → MatchBool b (AllWithin (λ (t : ℕ). t ≤ latest_time) ts 0 (length ts)) ((k : ℕ) × (k < length ts) × HoldsAt (λ (t : ℕ). latest_time < t) ts k)
+    → b ≡ times_sound ts
+unfolding times_sound
+times_told ts true h = sym (whole ts (λ k l. h k 0 (omega arith) l))
+  where
+    whole : (us : List ℕ) → ((k : ℕ) → k < length us → get_or us k 0 ≤ latest_time) → times_sound us ≡ true
+    whole [] g = refl
+    whole (u ∷ us) g = rw (le-leb u latest_time (g 0 (omega arith))) (whole us (λ k l. g (suc k) (omega arith)))
+times_told ts false h = sym (broken ts h.0 h.1 (h.2 0))
+  where
+    broken : (us : List ℕ) (k : ℕ) → k < length us → latest_time < get_or us k 0 → times_sound us ≡ false
+    broken [] k l g = absurd (omega arith)
+    broken (u ∷ us) zero l g = rw (lt-leb u latest_time g)
+    broken (u ∷ us) (suc k) l g = rw (broken us k (omega arith) g) (and-false (leb u latest_time))
 
-  pub times_on : k < length ts → get_or ts k 0 ≤ latest_time → times_sound (drop k ts) ≡ times_sound (drop (k + 1) ts)
-  unfolding times_sound
-  times_on h l = rw (drop_turn ts k 0 h, le-leb (get_or ts k 0) latest_time l)
-
-  pub times_none : length ts ≤ k → times_sound (drop k ts) ≡ true
-  unfolding times_sound
-  times_none h = rw (drop_none ts k h)
+-- HALF-BUILT LENGTHS, one more
+pub none_push : (ns : List ℕ) (n : ℕ) → none_half (ns ++ n ∷ []) ≡ (none_half ns && eqb n 0)
+unfolding none_half
+none_push [] n = last (eqb n 0)
+  where
+    last : (b : Bool) → (b && true) ≡ b
+    last true = refl
+    last false = refl
+none_push (m ∷ ns) n = rw (none_push ns n) (grouped (eqb m 0) (none_half ns) (eqb n 0))
+  where
+    grouped : (a b c : Bool) → (a && (b && c)) ≡ ((a && b) && c)
+    grouped true b c = refl
+    grouped false b c = refl
 
 -- ENTRIES
 module _ (es : List Entry) (count i : ℕ) (fits : count ≤ length es) where

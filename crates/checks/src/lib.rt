@@ -12,6 +12,7 @@ ghost use Rattle.programmes.specs.Listing.{most_listed};
 ghost use Rattle.calls.specs.Sound.{times_sound, number_among, entry_sound, entries_sound, rooms_from, rooms_sound, state_sound};
 ghost use Rattle.calls.specs.Calls.{open_refusal, clock_refusal};
 ghost use Rattle.arrays.specs.Lent.{entries_in, state_in, core_time_count, core_word_count};
+ghost use Rattle.checks.specs.Refusals.{refusal_number, number_in};
 ghost use Rattle.checks.specs.inner.Ladders.{sizes_refusal, state_refusal};
 
 use arrays::LATEST;
@@ -22,19 +23,37 @@ use programmes::{LOWEST_PID, MOST_LISTED};
 use sections::ROOMS;
 use watches::{Entry, FIXED, LATEST_TIME};
 
-// Whether none of the five gap starts is above 2^62.
+// Why a call is refused: the numbers 1 to 6.
+#[derive(Clone, Copy, PartialEq, Eq, Debug)]
+pub enum Refusal {
+    PacketSize,
+    TableSize,
+    FewRecords,
+    TimeTooLate,
+    UnknownState,
+    TimeBackwards,
+}
+
+impl From<Refusal> for u32 {
+    ghost from_gives = { λ r n. n ≡ refusal_number r };
+
+    fn from(refusal: Refusal) -> u32 {
+        match refusal {
+            Refusal::PacketSize => 1,
+            Refusal::TableSize => 2,
+            Refusal::FewRecords => 3,
+            Refusal::TimeTooLate => 4,
+            Refusal::UnknownState => 5,
+            Refusal::TimeBackwards => 6,
+        }
+    }
+}
+
+// Whether none of these gap starts is above 2^62.
 fn times_sound(since: &[u64]) -> bool
-    requires { length since.now ≡ fixed_count }
     ensures { result ≡ times_sound since.now }
 {
-    let mut k: usize = 0;
-    while k < FIXED {
-        if LATEST_TIME < since[k] {
-            return false;
-        }
-        k += 1;
-    }
-    true
+    since.iter().all(|&t| t <= LATEST_TIME)
 }
 
 // Whether a listed entry has a number, a PID within the bounds, and a gap start not above 2^62.
@@ -45,17 +64,15 @@ fn entry_sound(e: Entry) -> bool
 }
 
 // Whether a number is that of a listed entry from the place `start` on.
+// Times and words go side by side: a clause on one struct of both would say for each at which moment it is read, which is no plainer.
 fn number_among(number: u16, times: &[u64], words: &[u16], count: usize, start: usize) -> bool
     requires { (core_time_count ≤ length times.now) × (core_word_count ≤ length words.now) × (count ≤ most_listed) × (start ≤ count) }
     ensures { result ≡ number_among number (drop start (take count (entries_in times.now words.now))) }
 {
-    let mut i = start;
-    while i < count {
-        let e = arrays::entry_at(times, words, i);
-        if e.number == number {
+    for i in start..count {
+        if arrays::entry_at(times, words, i).number == number {
             return true;
         }
-        i += 1;
     }
     false
 }
@@ -67,19 +84,14 @@ fn entries_sound(times: &[u64], words: &[u16], count: usize) -> bool
     ensures { result ≡ entries_sound (take count (entries_in times.now words.now)) }
 {
     let mut marks = [false; 64];
-    let mut i = count;
-    while 0 < i {
-        i -= 1;
+    for i in (0..count).rev() {
         let e = arrays::entry_at(times, words, i);
         if !entry_sound(e) {
             return false;
         }
         let mark = (e.number % 64) as usize;
-        let marked = marks[mark];
-        if marked {
-            if number_among(e.number, times, words, count, i + 1) {
-                return false;
-            }
+        if marks[mark] && number_among(e.number, times, words, count, i + 1) {
+            return false;
         }
         marks[mark] = true;
     }
@@ -90,10 +102,7 @@ fn entries_sound(times: &[u64], words: &[u16], count: usize) -> bool
 fn run_sound(lost: bool, run: u8) -> bool
     ensures { result ≡ leb run (cond lost 4 1) }
 {
-    if lost {
-        return run <= 4;
-    }
-    run <= 1
+    run <= if lost { 4 } else { 1 }
 }
 
 // Whether the half-built bytes of a room are still to be built on. A given length may reach past the end
@@ -106,7 +115,7 @@ fn room_sound(memory: &[u8], room: usize, half: u16) -> bool
         return true;
     }
     let base = sections::room_base(room);
-    let n = sections::least(half as usize, memory.len() - base);
+    let n = (half as usize).min(memory.len() - base);
     let top = sections::greatest_length(room);
     let stage = sections::stage_of(&memory[base..base + n], top);
     sections::is_more(stage)
@@ -117,13 +126,7 @@ pub fn none_half(half: &[u16]) -> bool
     requires { length half.now ≡ room_count }
     ensures { result ≡ none_half half.now }
 {
-    let mut none = true;
-    let mut k: usize = 0;
-    while k < ROOMS {
-        none = none & (half[k] == 0);
-        k += 1;
-    }
-    none
+    half.iter().fold(true, |none, &n| none & (n == 0))
 }
 
 // A room from which on nothing is half-built.
@@ -132,9 +135,10 @@ fn rooms_used(half: &[u16]) -> usize
     ensures { (result ≤ room_count) × ((m : List ℕ) → rooms_from half.now m result (room_count - result) ≡ true) }
 {
     if programmes::none_listed(half) {
-        return FIXED;
+        FIXED
+    } else {
+        ROOMS
     }
-    ROOMS
 }
 
 // Whether the half-built bytes of every room are still to be built on: mostly there are none.
@@ -146,12 +150,10 @@ pub fn rooms_sound(half: &[u16], memory: &[u8]) -> bool
         return true;
     }
     let top = rooms_used(half);
-    let mut room: usize = 0;
-    while room < top {
+    for room in 0..top {
         if !room_sound(memory, room, half[room]) {
             return false;
         }
-        room += 1;
     }
     true
 }
@@ -161,103 +163,91 @@ fn rest_sound(lost: bool, run: u8, half: &[u16], memory: &[u8]) -> bool
     requires { (length half.now ≡ room_count) × (length memory.now ≡ memory_size) }
     ensures { result ≡ (leb run (cond lost 4 1) && rooms_sound half.now memory.now) }
 {
-    if !run_sound(lost, run) {
-        return false;
-    }
-    rooms_sound(half, memory)
+    run_sound(lost, run) && rooms_sound(half, memory)
 }
 
 // Whether the state is no ground for refusal 5.
+#[tactic(auto, unfolding(calls::specs::Sound::state_sound, arrays::specs::Lent::state_in))]
 fn state_sound(times: &[u64], words: &[u16], memory: &[u8]) -> bool
     requires { (core_time_count ≤ length times.now) × (core_word_count ≤ length words.now) × (length memory.now ≡ memory_size) }
     ensures { result ≡ state_sound (state_in times.now words.now) memory.now }
 {
-    if LATEST_TIME < times[LATEST] {
-        return false;
-    }
-    if !times_sound(arrays::gaps_of(times)) {
-        return false;
-    }
     let count = arrays::count_in(words);
-    if MOST_LISTED < count {
-        return false;
-    }
-    if !entries_sound(times, words, count) {
-        return false;
-    }
-    rest_sound(
-        arrays::sync_lost(words),
-        arrays::sync_run(words),
-        arrays::halves_of(words),
-        memory,
-    )
+    times[LATEST] <= LATEST_TIME
+        && times_sound(arrays::gaps_of(times))
+        && count <= MOST_LISTED
+        && entries_sound(times, words, count)
+        && rest_sound(
+            arrays::sync_lost(words),
+            arrays::sync_run(words),
+            arrays::halves_of(words),
+            memory,
+        )
 }
 
-// The refusal of an opening; 0 where it is accepted.
-pub fn open_refusal(time: u64, counters: &[u8]) -> u32
-    ensures { result ≡ open_refusal time counters.now }
+// What is so, or the refusal where it is not.
+fn ensure(holds: bool, refusal: Refusal) -> Result<(), Refusal>
+    ensures { number_in result ≡ cond holds 0 (refusal_number refusal) }
 {
-    if counters.len() != TABLE_SIZE {
-        return 2;
-    }
-    if LATEST_TIME < time {
-        return 4;
-    }
-    0
+    if holds { Ok(()) } else { Err(refusal) }
 }
 
-// Refusals 1 to 4 of a packet call, for an event list of `capacity` records; 0 where none of them is given.
-pub fn sizes_refusal(time: u64, packet: &[u8], counters: &[u8], capacity: usize) -> u32
-    ensures { result ≡ sizes_refusal time packet.now counters.now capacity }
+// Whether an opening is accepted.
+#[tactic(auto, unfolding(calls::specs::Calls::open_refusal))]
+pub fn check_open(time: u64, counters: &[u8]) -> Result<(), Refusal>
+    ensures { number_in result ≡ open_refusal time counters.now }
 {
-    if packet.len() != PACKET_SIZE {
-        return 1;
-    }
-    if counters.len() != TABLE_SIZE {
-        return 2;
-    }
-    if capacity < LEAST_CAPACITY {
-        return 3;
-    }
-    if LATEST_TIME < time {
-        return 4;
-    }
-    0
+    ensure(counters.len() == TABLE_SIZE, Refusal::TableSize)?;
+    ensure(time <= LATEST_TIME, Refusal::TimeTooLate)
 }
 
-// Refusals 5 and 6 of a packet call, whose PID has a table byte; 0 where neither is given.
-pub fn state_refusal(times: &[u64], words: &[u16], time: u64, memory: &[u8], byte: u8) -> u32
+// Refusals 1 to 4 of a packet call, for an event list of `capacity` records.
+#[tactic(auto, unfolding(crate::specs::inner::Ladders::sizes_refusal))]
+pub fn check_sizes(
+    time: u64,
+    packet: &[u8],
+    counters: &[u8],
+    capacity: usize,
+) -> Result<(), Refusal>
+    ensures { number_in result ≡ sizes_refusal time packet.now counters.now capacity }
+{
+    ensure(packet.len() == PACKET_SIZE, Refusal::PacketSize)?;
+    ensure(counters.len() == TABLE_SIZE, Refusal::TableSize)?;
+    ensure(LEAST_CAPACITY <= capacity, Refusal::FewRecords)?;
+    ensure(time <= LATEST_TIME, Refusal::TimeTooLate)
+}
+
+// Refusals 5 and 6 of a packet call, whose PID has a table byte.
+#[tactic(auto, unfolding(crate::specs::inner::Ladders::state_refusal, arrays::specs::Lent::state_in))]
+pub fn check_state(
+    times: &[u64],
+    words: &[u16],
+    time: u64,
+    memory: &[u8],
+    byte: u8,
+) -> Result<(), Refusal>
     requires { (core_time_count ≤ length times.now) × (core_word_count ≤ length words.now) × (length memory.now ≡ memory_size) }
-    ensures { result ≡ state_refusal (state_in times.now words.now) time memory.now byte }
+    ensures { number_in result ≡ state_refusal (state_in times.now words.now) time memory.now byte }
 {
-    if !state_sound(times, words, memory) {
-        return 5;
-    }
-    if !continuity::known_byte(byte) {
-        return 5;
-    }
-    if time < times[LATEST] {
-        return 6;
-    }
-    0
+    ensure(state_sound(times, words, memory), Refusal::UnknownState)?;
+    ensure(continuity::known_byte(byte), Refusal::UnknownState)?;
+    ensure(times[LATEST] <= time, Refusal::TimeBackwards)
 }
 
-// The refusal of a clock call; 0 where it is accepted.
-pub fn clock_refusal(times: &[u64], words: &[u16], time: u64, memory: &[u8], capacity: usize) -> u32
+// Whether a clock call is accepted.
+#[tactic(auto, unfolding(calls::specs::Calls::clock_refusal, arrays::specs::Lent::state_in))]
+pub fn check_clock(
+    times: &[u64],
+    words: &[u16],
+    time: u64,
+    memory: &[u8],
+    capacity: usize,
+) -> Result<(), Refusal>
     requires { (core_time_count ≤ length times.now) × (core_word_count ≤ length words.now) × (length memory.now ≡ memory_size) }
-    ensures { result ≡ clock_refusal (state_in times.now words.now) time memory.now capacity }
+    ensures { number_in result ≡ clock_refusal (state_in times.now words.now) time memory.now capacity }
 {
-    if capacity < LEAST_CAPACITY {
-        return 3;
-    }
-    if LATEST_TIME < time {
-        return 4;
-    }
-    if !state_sound(times, words, memory) {
-        return 5;
-    }
-    if time < times[LATEST] {
-        return 6;
-    }
-    0
+    ensure(LEAST_CAPACITY <= capacity, Refusal::FewRecords)?;
+    ensure(time <= LATEST_TIME, Refusal::TimeTooLate)?;
+    ensure(state_sound(times, words, memory), Refusal::UnknownState)?;
+    ensure(times[LATEST] <= time, Refusal::TimeBackwards)
 }

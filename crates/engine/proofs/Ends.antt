@@ -1,20 +1,22 @@
 -- The ends of a call: what is handed back where it is refused, and where it is accepted. Assumes nothing.
 use mathlib.Core.Path.{◌≡◌, refl, sym, ap, ap₂, ◌∙◌}
 use mathlib.Core.Bool.{true, ◌&&◌}
-use mathlib.Core.List.{List, [], ◌∷◌, ◌++◌}
+use mathlib.Core.List.{List, [], ◌++◌}
 use Prim.Native.Nat.{ℕ, ◌+◌, ◌≤◌, ◌<◌}
 use native.Mathlib.Omega.{arith}
 use lib.Dec.{leb}
 use lib.ListN.{length, get_or, set, replicate}
 use borrow.Author.Tests.{eq-eqb, ne_eqb}
-use Rattle.lists.specs.Places.{front}
 use Rattle.lists.proofs.Tests.{and_right, cond_either}
 use Rattle.lists.proofs.Laying.{laid_none, laid_turn}
 use Rattle.events.specs.declared.Event.{Event}
 use Rattle.events.specs.Events.{numbers_of, events_laid}
 use Rattle.events.specs.Capacity.{record_width}
 use Rattle.watches.specs.Tables.{latest_time, fixed_count}
-use Rattle.header.specs.Header.{pid_of}
+use Rattle.std.specs.Prelude.{Err}
+use Rattle.header.specs.declared.Header.{Header}
+use Rattle.header.specs.Header.{pid_of, header_of}
+use Rattle.header.specs.inner.Reads.{ReadOff}
 use Rattle.programmes.specs.Listing.{most_listed}
 use Rattle.calls.specs.declared.Core.{Core}
 use Rattle.calls.specs.declared.State.{State}
@@ -29,13 +31,17 @@ use Rattle.arrays.specs.Lent.{core_in, state_in, times_of, words_of, latest_at}
 use Rattle.arrays.specs.inner.Kept.{Sized}
 use Rattle.arrays.specs.Replies.{times_after, words_after}
 use Rattle.payloads.specs.inner.Taking.{held}
-use Rattle.checks.specs.inner.Ladders.{Right}
+use Rattle.checks.specs.declared.Refusal.{Refusal}
+use Rattle.checks.specs.Refusals.{refusal_number}
+use Rattle.checks.specs.inner.Ladders.{sizes_refusal, Right}
+use Rattle.checks.proofs.Ladders.{number_given, sizes_given}
 use Rattle.steps.specs.inner.Judging.{Done}
-use Rattle.quiet.specs.inner.Quiet.{quiet_call}
+use Rattle.quiet.specs.inner.Quiet.{quiet_call, quiet_byte}
 use Rattle.quiet.proofs.Calls.{counted_table}
 use Rattle.quiet.proofs.Lents.{quiet_done}
 use Rattle.engine.specs.inner.Numbers.{AllFit, Numbered}
 use Rattle.engine.specs.inner.Lent.{PacketLaid, ClockLaid}
+use Rattle.engine.specs.inner.Outcomes.{replied}
 use Rattle.engine.proofs.Fits.{all_fit_append, step1_fits}
 
 -- A SOUND STATE, in the forms that judging a packet asks
@@ -56,11 +62,7 @@ numbered_none list = record { laid = sym (laid_none numbers_of record_width list
 abbrev refused : ℕ → State → Answer
 refused number s = record { refusal = number; n = 0; state = s }
 
--- OPENING: a table of which every byte is set to 0
-pub front_zeros : (l : List ℕ) → front (λ x. 0) (length l) l ≡ replicate (length l) 0
-front_zeros [] = refl
-front_zeros (x ∷ l) = ap (λ z. 0 ∷ z) (front_zeros l)
-
+-- OPENING
 abbrev pub OpenEnd : ℕ → List ℕ → Answer → List ℕ → Type 0
 OpenEnd t counters a table = (a ≡ open_answer t counters) × (table ≡ open_table t counters)
 
@@ -75,6 +77,11 @@ module _ (t : ℕ) (counters : List ℕ) where
   open_done s table e es cleared =
       rw (eq-eqb (open_refusal t counters) 0 e)
       (ap₂ refused (sym e) es, cleared ∙ ap (λ (n : ℕ). replicate n 0) (open_accepted t counters e).table)
+
+-- THE TABLE of a quiet call, by what is read of the packet
+pub told_table : (p counters : List ℕ) (h : Header) (b left : ℕ) → ReadOff p counters h b → left ≡ quiet_byte p b → set counters h.pid left ≡ counted_table p counters
+unfolding header_of
+told_table p counters h b left read e = ap₂ (λ (k n : ℕ). set counters k n) (ap (λ (k : Header). k.pid) read.header) (e ∙ ap (quiet_byte p) read.byte)
 
 -- A PACKET CALL on two arrays
 module _ (times words : List ℕ) (t : ℕ) (p counters m : List ℕ) (capacity : ℕ) (before : List ℕ) where
@@ -91,6 +98,11 @@ module _ (times words : List ℕ) (t : ℕ) (p counters m : List ℕ) (capacity 
       let refused : packet_refusal (state_in times words) t p counters m capacity ≡ 0 → ⊥ = λ z. wrong (e ∙ z) in
       rw (packet_call_refused (state_in times words) t p counters m capacity refused, ne_eqb (packet_refusal (state_in times words) t p counters m capacity) 0 refused)
       (ap (λ (n : ℕ). told n 0) e, refl, refl, refl, refl, numbered_none before)
+
+  -- by what is read of the packet first
+  pub packet_refused_early : (r : Refusal) → refusal_number r ≡ sizes_refusal t p counters capacity → PacketLaid called (replied (Err r)) times times words words counters m before before
+  packet_refused_early r e =
+      packet_refused (refusal_number r) (e ∙ sym (sizes_given (state_in times words) t p counters m capacity (λ z. number_given r (e ∙ z)))) (number_given r)
 
   -- a quiet one: nothing but one table byte and the latest time changes
   pub packet_quiet : Sized times words → Right t p counters capacity → (table : List ℕ) → quiet_call (state_in times words) m t p (get_or counters (pid_of p) 0) ≡ true → table ≡ counted_table p counters

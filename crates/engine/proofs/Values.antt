@@ -20,11 +20,16 @@ use Rattle.arrays.specs.Replies.{times_after, words_after}
 use Rattle.arrays.proofs.Back.{Shaped, state_back}
 use Rattle.arrays.proofs.Shapes.{accepted_shaped, accepted_clock_shaped}
 use Rattle.arrays.proofs.Packed.{packed, packed_packet, packed_clock, packet_packed, clock_packed}
-use Rattle.checks.specs.inner.Ladders.{Right}
+use Rattle.std.specs.Prelude.{Err}
+use Rattle.checks.specs.declared.Refusal.{Refusal}
+use Rattle.checks.specs.Refusals.{refusal_number}
+use Rattle.checks.specs.inner.Ladders.{sizes_refusal, Right}
+use Rattle.checks.proofs.Ladders.{number_given, sizes_given}
 use Rattle.quiet.specs.inner.Quiet.{quiet_call}
 use Rattle.quiet.proofs.Calls.{counted_table, quiet_call_lem}
 use Rattle.engine.specs.inner.Numbers.{Numbered}
 use Rattle.engine.specs.inner.Lent.{PacketLaid, ClockLaid}
+use Rattle.engine.specs.inner.Outcomes.{answered}
 use Rattle.engine.proofs.Ends.{numbered_none}
 
 -- WHAT IS ANSWERED
@@ -61,6 +66,10 @@ module _ (s : State) (t : ℕ) (p counters m : List ℕ) (capacity : ℕ) (befor
       → PacketEnd s t p counters m capacity (refused number s) counters m before before
   packet_refused_at number e wrong =
       rw (packet_call_refused s t p counters m capacity (λ z. wrong (e ∙ z))) (ap (λ (n : ℕ). refused n s) e, refl, refl, numbered_none before)
+
+  pub packet_refused_early_at : (r : Refusal) → refusal_number r ≡ sizes_refusal t p counters capacity → PacketEnd s t p counters m capacity (answered s (Err r)) counters m before before
+  packet_refused_early_at r e =
+      packet_refused_at (refusal_number r) (e ∙ sym (sizes_given s t p counters m capacity (λ z. number_given r (e ∙ z)))) (number_given r)
 
   pub packet_quiet_at : Right t p counters capacity → Typed s → (table : List ℕ) → quiet_call s m t p (get_or counters (pid_of p) 0) ≡ true → table ≡ counted_table p counters
       → PacketEnd s t p counters m capacity (accepted 0 (record { latest = t; core = s.core })) table m before before

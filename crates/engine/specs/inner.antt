@@ -1,3 +1,4 @@
 -- What passes between functions and is no statement of the paper (docs/ARCHITECTURE.md, "In each crate").
 pub mod Numbers
 pub mod Lent
+pub mod Outcomes

@@ -17,41 +17,36 @@ ghost use Rattle.arrays.specs.inner.Kept.{Sized};
 ghost use Rattle.checks.specs.inner.Ladders.{Right};
 ghost use Rattle.engine.specs.inner.Numbers.{AllFit};
 ghost use Rattle.engine.specs.inner.Lent.{PacketLaid, ClockLaid};
+ghost use Rattle.engine.specs.inner.Outcomes.{replied, ReadIn};
 
 use arrays::{LATEST, Reply, TIMES, WORDS};
+use checks::Refusal;
 use events::NUMBERS;
 use header::{Header, PACKET_SIZE, SYNC_BYTE};
 use sections::MEMORY;
 
-fn bytes_in(s: &[u8]) -> usize
-    ensures { result ≡ length s.now }
+// The reply to a call.
+fn reply(outcome: Result<usize, Refusal>) -> Reply
+    ensures { result ≡ replied outcome }
 {
-    s.len()
-}
-
-fn numbers_in(s: &[u64]) -> usize
-    ensures { result ≡ length s.now }
-{
-    s.len()
-}
-
-// Section memory has its length by its type: a call of this shows it.
-pub(crate) fn memory_size(memory: &[u8; MEMORY]) -> usize
-    ensures { (result ≡ memory_size) × (length memory.now ≡ memory_size) }
-{
-    bytes_in(memory)
-}
-
-// So has the list of numbers: the numbers of the least event list.
-fn numbers_size(numbers: &[u64; NUMBERS]) -> usize
-    ensures { (result ≡ number_capacity) × (length numbers.now ≡ number_capacity) }
-{
-    numbers_in(numbers)
+    match outcome {
+        Ok(n) => Reply { refusal: 0, n },
+        Err(refusal) => Reply {
+            refusal: u32::from(refusal),
+            n: 0,
+        },
+    }
 }
 
 // The late events of the listed programmes, in list order, laid from the place n on; the next place.
-fn late_entries(times: &[u64], words: &[u16], time: u64, numbers: &mut [u64], n: usize) -> usize
-    requires { Sized times.now words.now × (n + most_listed ≤ least_capacity) × (number_capacity ≤ length numbers.old) × (count_in words.now ≤ most_listed)
+fn late_entries(
+    times: &[u64; TIMES],
+    words: &[u16; WORDS],
+    time: u64,
+    numbers: &mut [u64; NUMBERS],
+    n: usize,
+) -> usize
+    requires { (n + most_listed ≤ least_capacity) × (count_in words.now ≤ most_listed)
         × ((k : ℕ) → k < count_in words.now → (get_or (entries_in times.now words.now) k no_entry).since ≤ latest_time) }
     ensures { (result ≡ n + length (rows_late (get_or times.now latest_at 0) time (entry_rows (listed_in times.now words.now))))
         × (numbers.new ≡ events_laid numbers.old n (rows_late (get_or times.now latest_at 0) time (entry_rows (listed_in times.now words.now))))
@@ -60,18 +55,21 @@ fn late_entries(times: &[u64], words: &[u16], time: u64, numbers: &mut [u64], n:
     let latest = times[LATEST];
     let count = arrays::count_in(words);
     let mut m = n;
-    let mut k: usize = 0;
-    while k < count {
+    for k in 0..count {
         let e = arrays::entry_at(times, words, k);
         m = watches::late_entry(numbers, m, latest, time, e);
-        k += 1;
     }
     m
 }
 
 // The late events of a call, laid first; how many there are.
-fn judge_late(times: &[u64], words: &[u16], time: u64, numbers: &mut [u64]) -> usize
-    requires { Sized times.now words.now × (number_capacity ≤ length numbers.old) × (count_in words.now ≤ most_listed) × ((k : ℕ) → get_or (gaps_in times.now) k 0 ≤ latest_time)
+fn judge_late(
+    times: &[u64; TIMES],
+    words: &[u16; WORDS],
+    time: u64,
+    numbers: &mut [u64; NUMBERS],
+) -> usize
+    requires { (count_in words.now ≤ most_listed) × ((k : ℕ) → get_or (gaps_in times.now) k 0 ≤ latest_time)
         × ((k : ℕ) → k < count_in words.now → (get_or (entries_in times.now words.now) k no_entry).since ≤ latest_time) }
     ensures { (result ≡ length (late_of (get_or times.now latest_at 0) time (core_in times.now words.now)))
         × (numbers.new ≡ events_laid numbers.old 0 (late_of (get_or times.now latest_at 0) time (core_in times.now words.now)))
@@ -82,7 +80,21 @@ fn judge_late(times: &[u64], words: &[u16], time: u64, numbers: &mut [u64]) -> u
     late_entries(times, words, time, numbers, next)
 }
 
-// A packet call that refusals 1 to 4 pass, made in all its steps: the late events, then those of the packet.
+// What a call reads of its packet where refusals 1 to 4 pass it: the header, and the byte of its PID in the counter table.
+pub(crate) fn read_packet(
+    time: u64,
+    packet: &[u8],
+    counters: &[u8],
+    capacity: usize,
+) -> Result<(Header, u8), Refusal>
+    ensures { ReadIn result time packet.now counters.now capacity }
+{
+    checks::check_sizes(time, packet, counters, capacity)?;
+    let h = header::read(packet);
+    Ok((h, counters[h.pid as usize]))
+}
+
+// A packet call that refusals 1 to 4 pass, made in all its steps: the late events, then those of the packet; how many there are.
 pub(crate) fn loud_packet(
     times: &mut [u64; TIMES],
     words: &mut [u16; WORDS],
@@ -94,28 +106,18 @@ pub(crate) fn loud_packet(
     memory: &mut [u8; MEMORY],
     capacity: usize,
     numbers: &mut [u64; NUMBERS],
-) -> Reply
+) -> Result<usize, Refusal>
     requires { Right time packet.now counters.old capacity × ReadOff packet.now counters.old h byte × (h.pid < 8192) }
     ensures { PacketLaid (packet_call (state_in times.old words.old) time packet.now counters.old memory.old capacity)
-        result times.old times.new words.old words.new counters.new memory.new numbers.old numbers.new }
+        (replied result) times.old times.new words.old words.new counters.new memory.new numbers.old numbers.new }
 {
-    let t = arrays::time_count(times);
-    let w = arrays::word_count(words);
-    let size = memory_size(memory);
-    let places = numbers_size(numbers);
-    let refusal = checks::state_refusal(times, words, time, memory, byte);
-    if refusal != 0 {
-        return Reply {
-            refusal: refusal,
-            n: 0,
-        };
-    }
+    checks::check_state(times, words, time, memory, byte)?;
     let late = judge_late(times, words, time, numbers);
     let n = steps::judge_packet(
         times, words, time, packet, h, byte, counters, memory, numbers, late,
     );
     times[LATEST] = time;
-    Reply { refusal: 0, n: n }
+    Ok(n)
 }
 
 // A packet call, mostly a quiet one, which is two stores. Header and table byte are read once.
@@ -128,35 +130,23 @@ fn synced_packet(
     memory: &mut [u8; MEMORY],
     capacity: usize,
     numbers: &mut [u64; NUMBERS],
-) -> Reply
+) -> Result<usize, Refusal>
     ensures { PacketLaid (packet_call (state_in times.old words.old) time packet.now counters.old memory.old capacity)
-        result times.old times.new words.old words.new counters.new memory.new numbers.old numbers.new }
+        (replied result) times.old times.new words.old words.new counters.new memory.new numbers.old numbers.new }
 {
-    let t = arrays::time_count(times);
-    let w = arrays::word_count(words);
-    let size = memory_size(memory);
-    let refusal = checks::sizes_refusal(time, packet, counters, capacity);
-    if refusal != 0 {
-        return Reply {
-            refusal: refusal,
-            n: 0,
-        };
-    }
-    let h = header::read(packet);
-    let pid = h.pid as usize;
-    let byte = counters[pid];
-    let g = quiet::quiet_packet(times, words, memory, time, packet, h, byte);
-    if g.quiet {
-        counters[pid] = g.byte;
+    let (h, byte) = read_packet(time, packet, counters, capacity)?;
+    if let Some(left) = quiet::quiet_packet(times, words, memory, time, packet, h, byte) {
+        counters[h.pid as usize] = left;
         times[LATEST] = time;
-        return Reply { refusal: 0, n: 0 };
+        return Ok(0);
     }
     loud_packet(
         times, words, time, packet, h, byte, counters, memory, capacity, numbers,
     )
 }
 
-// A packet call that is not quiet, made in all its steps.
+// A packet call that is not quiet, made in all its steps: a function of its own, since two calls of one would be folded, and the
+// packet's first byte be read no earlier than the rest.
 fn other_packet(
     times: &mut [u64; TIMES],
     words: &mut [u16; WORDS],
@@ -166,19 +156,11 @@ fn other_packet(
     memory: &mut [u8; MEMORY],
     capacity: usize,
     numbers: &mut [u64; NUMBERS],
-) -> Reply
+) -> Result<usize, Refusal>
     ensures { PacketLaid (packet_call (state_in times.old words.old) time packet.now counters.old memory.old capacity)
-        result times.old times.new words.old words.new counters.new memory.new numbers.old numbers.new }
+        (replied result) times.old times.new words.old words.new counters.new memory.new numbers.old numbers.new }
 {
-    let number = checks::sizes_refusal(time, packet, counters, capacity);
-    if number != 0 {
-        return Reply {
-            refusal: number,
-            n: 0,
-        };
-    }
-    let h = header::read(packet);
-    let byte = counters[h.pid as usize];
+    let (h, byte) = read_packet(time, packet, counters, capacity)?;
     loud_packet(
         times, words, time, packet, h, byte, counters, memory, capacity, numbers,
     )
@@ -188,10 +170,7 @@ fn other_packet(
 fn in_step(packet: &[u8]) -> bool
     ensures { result ≡ (eqb (length packet.now) packet_size && right_sync packet.now) }
 {
-    if packet.len() != PACKET_SIZE {
-        return false;
-    }
-    packet[0] == SYNC_BYTE
+    packet.len() == PACKET_SIZE && packet[0] == SYNC_BYTE
 }
 
 // A packet call, for an event list of `capacity` records. The packet's first byte is looked at before all else: so the packet is
@@ -210,13 +189,31 @@ pub fn packet_in(
         result times.old times.new words.old words.new counters.new memory.new numbers.old numbers.new }
 {
     if in_step(packet) {
-        return synced_packet(
+        return reply(synced_packet(
             times, words, time, packet, counters, memory, capacity, numbers,
-        );
+        ));
     }
-    other_packet(
+    reply(other_packet(
         times, words, time, packet, counters, memory, capacity, numbers,
-    )
+    ))
+}
+
+// The late events of a clock call that is accepted; how many there are.
+pub(crate) fn settled(
+    times: &mut [u64; TIMES],
+    words: &mut [u16; WORDS],
+    time: u64,
+    memory: &[u8; MEMORY],
+    capacity: usize,
+    numbers: &mut [u64; NUMBERS],
+) -> Result<usize, Refusal>
+    ensures { ClockLaid (clock_call (state_in times.old words.old) time memory.now capacity)
+        (replied result) times.old times.new words.old words.new numbers.old numbers.new }
+{
+    checks::check_clock(times, words, time, memory, capacity)?;
+    let late = judge_late(times, words, time, numbers);
+    arrays::settle(times, words, time);
+    Ok(late)
 }
 
 // A clock call, for an event list of `capacity` records: the late events alone.
@@ -231,21 +228,5 @@ pub fn clock_in(
     ensures { ClockLaid (clock_call (state_in times.old words.old) time memory.now capacity)
         result times.old times.new words.old words.new numbers.old numbers.new }
 {
-    let t = arrays::time_count(times);
-    let w = arrays::word_count(words);
-    let size = memory_size(memory);
-    let places = numbers_size(numbers);
-    let refusal = checks::clock_refusal(times, words, time, memory, capacity);
-    if refusal != 0 {
-        return Reply {
-            refusal: refusal,
-            n: 0,
-        };
-    }
-    let late = judge_late(times, words, time, numbers);
-    arrays::settle(times, words, time);
-    Reply {
-        refusal: 0,
-        n: late,
-    }
+    reply(settled(times, words, time, memory, capacity, numbers))
 }

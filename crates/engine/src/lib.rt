@@ -5,21 +5,41 @@
 
 mod lent;
 
-ghost use Rattle.std.specs.Prelude.{◌≡◌, length, replicate};
+ghost use Rattle.std.specs.Prelude.{◌≡◌};
 ghost use Rattle.calls.specs.Cores.{opened_state};
 ghost use Rattle.calls.specs.Calls.{open_answer, open_table, packet_call, clock_call, answer_of};
 ghost use Rattle.engine.specs.inner.Numbers.{Numbered};
+ghost use Rattle.engine.specs.inner.Outcomes.{answered};
 
 use arrays::{TIMES, WORDS};
 use calls::{Answer, Core, State};
+use checks::Refusal;
 use events::NUMBERS;
 pub use lent::{clock_in, packet_in};
 use programmes::MOST_LISTED;
 use sections::{MEMORY, ROOMS};
-use watches::{Entry, FIXED};
+use watches::{FIXED, NO_ENTRY};
+
+// The answer to a call on the state `before`.
+fn answer(before: State, outcome: Result<(usize, State), Refusal>) -> Answer
+    ensures { result ≡ answered before outcome }
+{
+    match outcome {
+        Ok((n, state)) => Answer {
+            refusal: 0,
+            n,
+            state,
+        },
+        Err(refusal) => Answer {
+            refusal: u32::from(refusal),
+            n: 0,
+            state: before,
+        },
+    }
+}
 
 // The state of an opening.
-fn opened_at(time: u64) -> State
+pub fn opened_at(time: u64) -> State
     ensures { result ≡ opened_state time }
 {
     State {
@@ -29,49 +49,66 @@ fn opened_at(time: u64) -> State
             run: 0,
             since: [time; FIXED],
             count: 0,
-            entries: [Entry {
-                number: 0,
-                pid: 0,
-                since: 0,
-            }; MOST_LISTED],
+            entries: [NO_ENTRY; MOST_LISTED],
             half: [0; ROOMS],
         },
     }
 }
 
-// Every PID is unseen.
-fn clear(counters: &mut [u8])
-    ensures { counters.new ≡ replicate (length counters.old) 0 }
+// An opening that is accepted: every PID is unseen.
+fn opened(time: u64, counters: &mut [u8]) -> Result<(usize, State), Refusal>
+    ensures { (answered (opened_state 0) result ≡ open_answer time counters.old) × (counters.new ≡ open_table time counters.old) }
 {
-    let mut i: usize = 0;
-    while i < counters.len() {
-        counters[i] = 0;
-        i += 1;
-    }
+    checks::check_open(time, counters)?;
+    counters.fill(0);
+    Ok((0, opened_at(time)))
 }
 
 // Opening: the table's bytes are set to 0 only where it is accepted.
 pub fn open_at(time: u64, counters: &mut [u8]) -> Answer
     ensures { (result ≡ open_answer time counters.old) × (counters.new ≡ open_table time counters.old) }
 {
-    let refusal = checks::open_refusal(time, counters);
-    if refusal != 0 {
-        return Answer {
-            refusal: refusal,
-            n: 0,
-            state: opened_at(0),
-        };
-    }
-    clear(counters);
-    Answer {
-        refusal: 0,
-        n: 0,
-        state: opened_at(time),
-    }
+    answer(opened_at(0), opened(time, counters))
 }
 
-// A packet call, for an event list of `capacity` records. Most are quiet, and done where that is seen; for any other the state
-// is laid into arrays, and read from them where the call is accepted.
+// A packet call that is accepted: how many events, and the state. Most are quiet, and done where that is seen; for any other the
+// state is laid into arrays, and read from them.
+fn judged_packet(
+    state: State,
+    time: u64,
+    packet: &[u8],
+    counters: &mut [u8],
+    memory: &mut [u8; MEMORY],
+    capacity: usize,
+    numbers: &mut [u64; NUMBERS],
+) -> Result<(usize, State), Refusal>
+    ensures { (answered state result ≡ answer_of (packet_call state time packet.now counters.old memory.old capacity))
+        × (counters.new ≡ (packet_call state time packet.now counters.old memory.old capacity).counters)
+        × (memory.new ≡ (packet_call state time packet.now counters.old memory.old capacity).memory)
+        × Numbered numbers.old numbers.new (packet_call state time packet.now counters.old memory.old capacity).events }
+{
+    let (h, byte) = lent::read_packet(time, packet, counters, capacity)?;
+    if let Some(left) = quiet::quiet_value(state, memory, time, packet, h, byte) {
+        counters[h.pid as usize] = left;
+        return Ok((
+            0,
+            State {
+                latest: time,
+                ..state
+            },
+        ));
+    }
+    let mut times = [0u64; TIMES];
+    let mut words = [0u16; WORDS];
+    arrays::lay_times(state, &mut times);
+    arrays::lay_words(state, &mut words);
+    let n = lent::loud_packet(
+        &mut times, &mut words, time, packet, h, byte, counters, memory, capacity, numbers,
+    )?;
+    Ok((n, arrays::state_in(&times, &words)))
+}
+
+// A packet call, for an event list of `capacity` records.
 pub fn packet_at(
     state: State,
     time: u64,
@@ -86,51 +123,29 @@ pub fn packet_at(
         × (memory.new ≡ (packet_call state time packet.now counters.old memory.old capacity).memory)
         × Numbered numbers.old numbers.new (packet_call state time packet.now counters.old memory.old capacity).events }
 {
-    let size = lent::memory_size(memory);
-    let shape = arrays::typed(state);
-    let refusal = checks::sizes_refusal(time, packet, counters, capacity);
-    if refusal != 0 {
-        return Answer {
-            refusal: refusal,
-            n: 0,
-            state: state,
-        };
-    }
-    let h = header::read(packet);
-    let pid = h.pid as usize;
-    let byte = counters[pid];
-    let g = quiet::quiet_value(state, memory, time, packet, h, byte);
-    if g.quiet {
-        counters[pid] = g.byte;
-        let same = state.core;
-        return Answer {
-            refusal: 0,
-            n: 0,
-            state: State {
-                latest: time,
-                core: same,
-            },
-        };
-    }
+    answer(
+        state,
+        judged_packet(state, time, packet, counters, memory, capacity, numbers),
+    )
+}
+
+// A clock call that is accepted: how many events, and the state.
+fn settled(
+    state: State,
+    time: u64,
+    memory: &[u8; MEMORY],
+    capacity: usize,
+    numbers: &mut [u64; NUMBERS],
+) -> Result<(usize, State), Refusal>
+    ensures { (answered state result ≡ answer_of (clock_call state time memory.now capacity))
+        × Numbered numbers.old numbers.new (clock_call state time memory.now capacity).events }
+{
     let mut times = [0u64; TIMES];
     let mut words = [0u16; WORDS];
     arrays::lay_times(state, &mut times);
     arrays::lay_words(state, &mut words);
-    let r = lent::loud_packet(
-        &mut times, &mut words, time, packet, h, byte, counters, memory, capacity, numbers,
-    );
-    if r.refusal != 0 {
-        return Answer {
-            refusal: r.refusal,
-            n: 0,
-            state: state,
-        };
-    }
-    Answer {
-        refusal: 0,
-        n: r.n,
-        state: arrays::state_in(&times, &words),
-    }
+    let n = lent::settled(&mut times, &mut words, time, memory, capacity, numbers)?;
+    Ok((n, arrays::state_in(&times, &words)))
 }
 
 // A clock call, for an event list of `capacity` records: the late events alone.
@@ -144,22 +159,5 @@ pub fn clock_at(
     ensures { (result ≡ answer_of (clock_call state time memory.now capacity))
         × Numbered numbers.old numbers.new (clock_call state time memory.now capacity).events }
 {
-    let shape = arrays::typed(state);
-    let mut times = [0u64; TIMES];
-    let mut words = [0u16; WORDS];
-    arrays::lay_times(state, &mut times);
-    arrays::lay_words(state, &mut words);
-    let r = lent::clock_in(&mut times, &mut words, time, memory, capacity, numbers);
-    if r.refusal != 0 {
-        return Answer {
-            refusal: r.refusal,
-            n: 0,
-            state: state,
-        };
-    }
-    Answer {
-        refusal: 0,
-        n: r.n,
-        state: arrays::state_in(&times, &words),
-    }
+    answer(state, settled(state, time, memory, capacity, numbers))
 }

@@ -37,12 +37,13 @@ use Rattle.programmes.proofs.move_sections.Reads as move-sections
 use Rattle.payloads.proofs.take_payload.Reads as take-payload
 use Rattle.checks.proofs.none_half.Reads as none-half
 use Rattle.checks.proofs.rooms_sound.Reads as rooms-sound
-use Rattle.checks.proofs.open_refusal.Reads as open-refusal
-use Rattle.checks.proofs.sizes_refusal.Reads as sizes-refusal
-use Rattle.checks.proofs.state_refusal.Reads as state-refusal
-use Rattle.checks.proofs.clock_refusal.Reads as clock-refusal
+use Rattle.checks.proofs.check_open.Reads as check-open
+use Rattle.checks.proofs.check_sizes.Reads as check-sizes
+use Rattle.checks.proofs.check_state.Reads as check-state
+use Rattle.checks.proofs.check_clock.Reads as check-clock
 use Rattle.steps.proofs.judge_packet.Reads as judge-packet
 use Rattle.engine.proofs.open_at.Reads as open_at
+use Rattle.engine.proofs.opened_at.Reads as opened-at
 use Rattle.engine.proofs.packet_in.Reads as packet-in
 use Rattle.engine.proofs.clock_in.Reads as clock-in
 use Rattle.engine.proofs.packet_at.Reads as packet-at
@@ -89,6 +90,7 @@ use Rattle.sections.specs.inner.Steps.{laid_in}
 use Rattle.records.specs.inner.Handing.{handed}
 use Rattle.arrays.proofs.Kept.{latest_alike, sync_alike, told_alike}
 use Rattle.outcomes.specs.Once.{OneAnswer, OneOutcome}
+use Rattle.checks.proofs.Ladders.{same_outcome}
 use Rattle.outcomes.proofs.Alike.{both, places_2, places_3, places_4, places_5}
 
 -- numbers, n, events
@@ -126,14 +128,15 @@ pub record NoSecondOutcomeInside : Type 0 where
       → OneOutcome (take-payload.Post κs) (λ r. r) (λ s. s.0.now ∷ s.1.0.now ∷ s.1.1.0.now ∷ s.1.1.1.1.1.1.1.1.0.now ∷ [])
   pub checks_none_half : (κs : _) → OneAnswer (none-half.Post κs) (λ r. r)
   pub checks_rooms_sound : (κs : _) → OneAnswer (rooms-sound.Post κs) (λ r. r)
-  pub checks_open_refusal : (κs : _) → OneAnswer (open-refusal.Post κs) (λ r. r)
-  pub checks_sizes_refusal : (κs : _) → OneAnswer (sizes-refusal.Post κs) (λ r. r)
-  pub checks_state_refusal : (κs : _) → OneAnswer (state-refusal.Post κs) (λ r. r)
-  pub checks_clock_refusal : (κs : _) → OneAnswer (clock-refusal.Post κs) (λ r. r)
+  pub checks_check_open : (κs : _) → OneAnswer (check-open.Post κs) (λ r. r)
+  pub checks_check_sizes : (κs : _) → OneAnswer (check-sizes.Post κs) (λ r. r)
+  pub checks_check_state : (κs : _) → OneAnswer (check-state.Post κs) (λ r. r)
+  pub checks_check_clock : (κs : _) → OneAnswer (check-clock.Post κs) (λ r. r)
   -- times, words, counters, memory, numbers
   pub steps_judge_packet : (κs : _)
       → OneOutcome (judge-packet.Post κs) (λ r. r)
       (λ s. s.0.now ∷ s.1.0.now ∷ s.1.1.1.1.1.1.0.now ∷ s.1.1.1.1.1.1.1.0.now ∷ s.1.1.1.1.1.1.1.1.0.now ∷ [])
+  pub engine_opened_at : (κs : _) → OneAnswer (opened-at.Post κs) (λ r. r)
   pub engine_open_at : (κs : _) → OneOutcome (open_at.Post κs) (λ r. r) (λ s. s.1.0.now)
   -- times, words, counters, memory, numbers
   pub engine_packet_in : (κs : _)
@@ -228,16 +231,17 @@ no_second_outcome_inside =
           );
       checks_none_half = λ κs a r r' s s' p q. both p q;
       checks_rooms_sound = λ κs a r r' s s' p q. both p q;
-      checks_open_refusal = λ κs a r r' s s' p q. both p q;
-      checks_sizes_refusal = λ κs a r r' s s' p q. both p q;
-      checks_state_refusal = λ κs a r r' s s' p q. both p q;
-      checks_clock_refusal = λ κs a r r' s s' p q. both p q;
+      checks_check_open = λ κs a r r' s s' p q. same_outcome r r' (both p q);
+      checks_check_sizes = λ κs a r r' s s' p q. same_outcome r r' (both p q);
+      checks_check_state = λ κs a r r' s s' p q. same_outcome r r' (both p q);
+      checks_check_clock = λ κs a r r' s s' p q. same_outcome r r' (both p q);
       steps_judge_packet = λ κs a r r' s s' p q.
           let same = both p.0.core q.0.core in (
             both p.0.next q.0.next,
             places_5 (latest_alike _ _ _ _ _ same p.1.0 q.1.0) (told_alike _ _ _ _ same p.1.1 q.1.1) (both p.0.counters q.0.counters)
                 (both p.0.memory q.0.memory) (both p.0.laid q.0.laid),
           );
+      engine_opened_at = λ κs a r r' s s' p q. both p q;
       engine_open_at = λ κs a r r' s s' p q. (both p.0 q.0, both p.1 q.1);
       engine_packet_in = λ κs a r r' s s' p q. (
         both p.0 q.0,

@@ -1,26 +1,43 @@
 -- The tests of a quiet call, one turn of each loop at a time. Assumes nothing.
 use mathlib.Core.Path.{◌≡◌, refl, sym, ap, ◌∙◌}
-use mathlib.Core.Bool.{Bool, true, false, cond, true≢false}
+use mathlib.Core.Bool.{Bool, true, false, cond, ◌&&◌, true≢false}
 use mathlib.Core.List.{List, [], ◌∷◌}
 use Prim.Native.Nat.{ℕ, ◌+◌, ◌≤◌, ◌<◌}
 use native.Mathlib.Omega.{arith}
 use lib.ListN.{length, get_or, set, take, drop}
 use Rattle.lists.proofs.Turns.{left_turn, left_none}
 use Rattle.watches.specs.declared.Entry.{Entry}
-use Rattle.watches.specs.Tables.{no_entry}
+use Rattle.watches.specs.Tables.{no_entry, fixed_tables}
+use Rattle.watches.specs.Late.{table_rows}
 use Rattle.arrays.specs.Lent.{tabled}
 use Rattle.arrays.proofs.Tabled.{part_all, part_tabled}
-use Rattle.quiet.specs.declared.Glance.{Glance}
-use Rattle.quiet.specs.inner.Quiet.{entry_quiet, mark_of, entries_quiet, quiet_byte, glance_of}
-
-pub cond_same : (b : Bool) → b ≡ cond b true false
-cond_same true = refl
-cond_same false = refl
+use Rattle.std.specs.Prelude.{Some}
+use Rattle.quiet.specs.inner.Quiet.{gap_quiet, rows_quiet, entry_quiet, mark_of, entries_quiet, quiet_byte, glance_of}
 
 -- the five gap starts, by name
 pub five_all : (l : List ℕ) → length l ≡ 5 → l ≡ get_or l 0 0 ∷ get_or l 1 0 ∷ get_or l 2 0 ∷ get_or l 3 0 ∷ get_or l 4 0 ∷ []
 unfolding tabled
 five_all l h = sym (part_all l 5 h) ∙ part_tabled l 0 0 5 (omega arith)
+
+chained : (a b c d e : Bool) → cond a (cond b (cond c (cond d (cond e true false) false) false) false) false ≡ (a && b && c && d && e)
+chained true true true true true = refl
+chained true true true true false = refl
+chained true true true false e = refl
+chained true true false d e = refl
+chained true false c d e = refl
+chained false b c d e = refl
+
+pub five_quiet : (p t : ℕ) (l : List ℕ) → length l ≡ 5 → rows_quiet p t (table_rows fixed_tables l)
+    ≡ (gap_quiet (13_500_000 ∷ []) p t (get_or l 0 0)
+    && gap_quiet (270_000_000 ∷ []) p t (get_or l 1 0)
+    && gap_quiet (54_000_000 ∷ []) p t (get_or l 2 0)
+    && gap_quiet (54_000_000 ∷ []) p t (get_or l 3 0)
+    && gap_quiet (810_000_000 ∷ []) p t (get_or l 4 0))
+unfolding rows_quiet table_rows
+five_quiet p t l h =
+    ap (λ (ss : List ℕ). rows_quiet p t (table_rows fixed_tables ss)) (five_all l h)
+    ∙ chained (gap_quiet (13_500_000 ∷ []) p t (get_or l 0 0)) (gap_quiet (270_000_000 ∷ []) p t (get_or l 1 0)) (gap_quiet (54_000_000 ∷ []) p t (get_or l 2 0))
+    (gap_quiet (54_000_000 ∷ []) p t (get_or l 3 0)) (gap_quiet (810_000_000 ∷ []) p t (get_or l 4 0))
 
 -- ENTRIES
 module _ (es : List Entry) (count i : ℕ) (fits : count ≤ length es) (p t q : ℕ) (marks : List Bool) where
@@ -47,20 +64,7 @@ pub passed : (b x : Bool) → cond b x false ≡ true → (b ≡ true) × (x ≡
 passed true x e = (refl, e)
 passed false x e = absurd (true≢false (sym e))
 
--- WHAT IS TOLD OF A CALL, by the packet (q) and the state (s)
-module _ (x : List ℕ) (b : ℕ) {g : Glance} where
-  pub still_loud : (q s : Bool) → g ≡ glance_of q x b → g.quiet ≡ false → g ≡ glance_of (cond q s false) x b
-  still_loud true s e loud = absurd (true≢false (sym (ap (λ (k : Glance). k.quiet) e) ∙ loud))
-  still_loud false s e loud = e
-
-  pub now_loud : (q s : Bool) → g ≡ glance_of false x b → s ≡ false → g ≡ glance_of (cond q s false) x b
-  now_loud true s e loud = rw loud e
-  now_loud false s e loud = e
-
-  pub still_quiet : (q s : Bool) → g ≡ glance_of q x b → s ≡ true → g ≡ glance_of (cond q s false) x b
-  still_quiet true s e quiet = rw quiet e
-  still_quiet false s e quiet = e
-
-  pub told_quiet : (q : Bool) → g ≡ glance_of q x b → g.quiet ≡ true → (q ≡ true) × (g.byte ≡ quiet_byte x b)
-  told_quiet true e quiet = (refl, ap (λ (k : Glance). k.byte) e)
-  told_quiet false e quiet = absurd (true≢false (sym quiet ∙ ap (λ (k : Glance). k.quiet) e))
+-- WHAT IS TOLD OF A CALL that is quiet
+pub told_quiet : (x : List ℕ) (b left : ℕ) (q : Bool) → Some left ≡ glance_of q x b → (q ≡ true) × (left ≡ quiet_byte x b)
+told_quiet x b left true e = (refl, cc)
+told_quiet x b left false e = absurd (cc)

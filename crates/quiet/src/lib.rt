@@ -1,10 +1,10 @@
 // A packet call of which nothing is to be said, seen at a glance: most packets of a stream are elementary data of which
 // the engine only counts, and then the call is two stores. What is not seen at a glance is left to the call itself. The
-// same of a state by value is in `value`.
+// state may stand in the lent arrays or be a value: `standing` has what is asked of it.
 
 #![tactic(auto)]
 
-mod value;
+mod standing;
 
 ghost use Rattle.std.specs.Prelude.{◌≡◌, ◌≤◌, false, not, ◌&&◌, ◌||◌, [], ◌∷◌, eqb, leb, length, take};
 ghost use Rattle.watches.specs.Tables.{fixed_tables, latest_time, fixed_count};
@@ -13,24 +13,17 @@ ghost use Rattle.header.specs.Header.{packet_size, sync_byte, header_of};
 ghost use Rattle.sections.specs.Rooms.{memory_size, room_count};
 ghost use Rattle.programmes.specs.Listing.{lowest_pid, null_pid, most_listed};
 ghost use Rattle.calls.specs.Sound.{rooms_sound};
-ghost use Rattle.arrays.specs.Lent.{entries_in, state_in, core_time_count, core_word_count};
+ghost use Rattle.arrays.specs.Lent.{state_in, core_time_count, core_word_count};
+ghost use Rattle.arrays.specs.inner.Kept.{Typed};
 ghost use Rattle.quiet.specs.inner.Quiet.{gap_quiet, rows_quiet, entry_quiet, entries_quiet, unmarked, latest_quiet, state_quiet, count_quiet, quiet_call, glance_of};
 
-use arrays::LATEST;
-use calls::GREATEST_PID;
+use calls::{GREATEST_PID, State};
 use header::{Header, SYNC_BYTE};
 use programmes::{LOWEST_PID, MOST_LISTED, NULL_PID};
-pub use value::quiet_value;
+use standing::{Standing, View};
 use watches::{
     EIT_LIMIT, Entry, LATEST_TIME, NIT_LIMIT, PAT_LIMIT, PMT_LIMIT, SDT_LIMIT, TDT_LIMIT,
 };
-
-// Whether a call is quiet, and then the byte of its PID in the counter table after steps 3 and 4.
-#[derive(Clone, Copy)]
-pub struct Glance {
-    pub quiet: bool,
-    pub byte: u8,
-}
 
 // Whether a gap start is not above 2^62 and its stamp does not fall due as time goes from p to t: of a watch with one limit.
 fn gap_quiet(since: u64, limit: u64, p: u64, t: u64) -> bool
@@ -49,19 +42,11 @@ fn tables_quiet(since: &[u64], p: u64, t: u64) -> bool
     requires { length since.now ≡ fixed_count }
     ensures { result ≡ rows_quiet p t (table_rows fixed_tables since.now) }
 {
-    if !gap_quiet(since[0], PAT_LIMIT, p, t) {
-        return false;
-    }
-    if !gap_quiet(since[1], NIT_LIMIT, p, t) {
-        return false;
-    }
-    if !gap_quiet(since[2], SDT_LIMIT, p, t) {
-        return false;
-    }
-    if !gap_quiet(since[3], EIT_LIMIT, p, t) {
-        return false;
-    }
-    gap_quiet(since[4], TDT_LIMIT, p, t)
+    gap_quiet(since[0], PAT_LIMIT, p, t)
+        && gap_quiet(since[1], NIT_LIMIT, p, t)
+        && gap_quiet(since[2], SDT_LIMIT, p, t)
+        && gap_quiet(since[3], EIT_LIMIT, p, t)
+        && gap_quiet(since[4], TDT_LIMIT, p, t)
 }
 
 // Whether a listed entry is one that refusal 5 passes, quiet, and on another PID than q.
@@ -76,14 +61,13 @@ fn entry_quiet(e: Entry, p: u64, t: u64, q: u16) -> bool
 }
 
 // Whether the listed entries are, with no two numbers of the same remainder.
-fn entries_quiet(times: &[u64], words: &[u16], count: usize, p: u64, t: u64, q: u16) -> bool
-    requires { (core_time_count ≤ length times.now) × (core_word_count ≤ length words.now) × (count ≤ most_listed) }
-    ensures { result ≡ entries_quiet p t q unmarked (take count (entries_in times.now words.now)) }
+fn entries_quiet<S: Standing>(standing: &S, count: usize, p: u64, t: u64, q: u16) -> bool
+    requires { (count ≤ most_listed) × (length (S.state standing.now).core.entries ≡ most_listed) }
+    ensures { result ≡ entries_quiet p t q unmarked (take count (S.state standing.now).core.entries) }
 {
     let mut marks = [false; 64];
-    let mut k: usize = 0;
-    while k < count {
-        let e = arrays::entry_at(times, words, k);
+    for k in 0..count {
+        let e = standing.entry(k);
         if !entry_quiet(e, p, t, q) {
             return false;
         }
@@ -92,7 +76,6 @@ fn entries_quiet(times: &[u64], words: &[u16], count: usize, p: u64, t: u64, q: 
             return false;
         }
         marks[mark] = true;
-        k += 1;
     }
     true
 }
@@ -116,32 +99,22 @@ fn rest_quiet(half: &[u16], memory: &[u8]) -> bool
     requires { (length half.now ≡ room_count) × (length memory.now ≡ memory_size) }
     ensures { result ≡ rooms_sound half.now memory.now }
 {
-    if checks::none_half(half) {
-        return true;
-    }
-    checks::rooms_sound(half, memory)
+    checks::none_half(half) || checks::rooms_sound(half, memory)
 }
 
 // Whether the state is quiet for a packet of the PID q.
-fn state_quiet(times: &[u64], words: &[u16], memory: &[u8], t: u64, q: u16) -> bool
-    requires { (core_time_count ≤ length times.now) × (core_word_count ≤ length words.now) × (length memory.now ≡ memory_size) }
-    ensures { result ≡ state_quiet (state_in times.now words.now) memory.now t q }
+#[tactic(auto, unfolding(crate::specs::inner::Quiet::state_quiet))]
+fn state_quiet<S: Standing>(standing: &S, memory: &[u8], t: u64, q: u16) -> bool
+    requires { (length (S.state standing.now).core.entries ≡ most_listed) × (length memory.now ≡ memory_size) }
+    ensures { result ≡ state_quiet (S.state standing.now) memory.now t q }
 {
-    let count = arrays::count_in(words);
-    if !sync_quiet(arrays::sync_lost(words), arrays::sync_run(words), count) {
-        return false;
-    }
-    let p = times[LATEST];
-    if !latest_quiet(p, t) {
-        return false;
-    }
-    if !rest_quiet(arrays::halves_of(words), memory) {
-        return false;
-    }
-    if !tables_quiet(arrays::gaps_of(times), p, t) {
-        return false;
-    }
-    entries_quiet(times, words, count, p, t, q)
+    let count = standing.count();
+    let p = standing.latest();
+    sync_quiet(standing.lost(), standing.run(), count)
+        && latest_quiet(p, t)
+        && rest_quiet(standing.halves(), memory)
+        && tables_quiet(standing.gaps(), p, t)
+        && entries_quiet(standing, count, p, t, q)
 }
 
 // Whether the packet is in sync and without a transport error, on a PID of elementary streams or the null PID.
@@ -158,45 +131,50 @@ fn is_idle(h: Header) -> bool
     (h.pid == NULL_PID) | (h.control == 0)
 }
 
-fn loud() -> Glance
-    ensures { result ≡ record { quiet = false; byte = 0 } }
-{
-    Glance {
-        quiet: false,
-        byte: 0,
-    }
-}
-
-// Whether the packet is one of which only the counter is looked at, with nothing to be said of it, by its header and the
-// byte of its PID in the counter table. Step 4 is judged here by the function that judges it for every other packet.
-fn count_quiet(packet: &[u8], h: Header, byte: u8) -> Glance
+// The byte of the packet's PID in the counter table after steps 3 and 4, where the packet is one of which only the counter is
+// looked at, with nothing to be said of it, by its header and the byte before. Step 4 is judged here by the function that
+// judges it for every other packet.
+#[tactic(auto, unfolding(header::specs::Header::header_of))]
+fn count_quiet(packet: &[u8], h: Header, byte: u8) -> Option<u8>
     requires { (length packet.now ≡ packet_size) × (h ≡ header_of packet.now) }
     ensures { result ≡ glance_of (count_quiet packet.now byte) packet.now byte }
 {
     if !head_quiet(packet[0], h) {
-        return loud();
+        return None;
     }
     if !continuity::known_byte(byte) {
-        return loud();
+        return None;
     }
     if is_idle(h) {
-        return Glance {
-            quiet: true,
-            byte: byte,
-        };
+        return Some(byte);
     }
     let j = continuity::judge(byte, h);
-    if j.event {
-        return loud();
-    }
-    Glance {
-        quiet: true,
-        byte: j.byte,
+    if j.event { None } else { Some(j.byte) }
+}
+
+// The byte that a packet call leaves in the counter table, where refusals 1 to 4 pass it and nothing is to be said of it, by the
+// packet's header and the byte of its PID there.
+#[tactic(auto, unfolding(header::specs::Header::header_of))]
+fn glance<S: Standing>(
+    standing: &S,
+    memory: &[u8],
+    time: u64,
+    packet: &[u8],
+    h: Header,
+    byte: u8,
+) -> Option<u8>
+    requires { (length (S.state standing.now).core.entries ≡ most_listed) × (length memory.now ≡ memory_size) × (length packet.now ≡ packet_size) × (h ≡ header_of packet.now) }
+    ensures { result ≡ glance_of (quiet_call (S.state standing.now) memory.now time packet.now byte) packet.now byte }
+{
+    let left = count_quiet(packet, h, byte)?;
+    if state_quiet(standing, memory, time, h.pid) {
+        Some(left)
+    } else {
+        None
     }
 }
 
-// Whether nothing is to be said of a packet call that refusals 1 to 4 pass, by the packet's header and the byte of its PID
-// in the counter table.
+// That of a call on lent arrays.
 pub fn quiet_packet(
     times: &[u64],
     words: &[u16],
@@ -205,17 +183,25 @@ pub fn quiet_packet(
     packet: &[u8],
     h: Header,
     byte: u8,
-) -> Glance
+) -> Option<u8>
     requires core_time_count_in_bounds { (core_time_count ≤ length times.now) × (core_word_count ≤ length words.now) × (length memory.now ≡ memory_size) }
     requires packet_len { (length packet.now ≡ packet_size) × (h ≡ header_of packet.now) }
     ensures { result ≡ glance_of (quiet_call (state_in times.now words.now) memory.now time packet.now byte) packet.now byte }
 {
-    let g = count_quiet(packet, h, byte);
-    if !g.quiet {
-        return g;
-    }
-    if !state_quiet(times, words, memory, time, h.pid) {
-        return loud();
-    }
-    g
+    glance(&View { times, words }, memory, time, packet, h, byte)
+}
+
+// That of a call on a state by value.
+pub fn quiet_value(
+    state: State,
+    memory: &[u8],
+    time: u64,
+    packet: &[u8],
+    h: Header,
+    byte: u8,
+) -> Option<u8>
+    requires { Typed state × (length memory.now ≡ memory_size) × (length packet.now ≡ packet_size) × (h ≡ header_of packet.now) }
+    ensures { result ≡ glance_of (quiet_call state memory.now time packet.now byte) packet.now byte }
+{
+    glance(&state, memory, time, packet, h, byte)
 }

@@ -13,7 +13,7 @@ use Rattle.arrays.proofs.Stores.{entry_at, entries_length}
 use Rattle.checks.proofs.Turns.{among_none, entries_here, entries_twice, entries_on, entries_none}
 use Rattle.checks.proofs.Marks.{Marked, unmarked_none, marked_turn, unsound_end}
 use Rattle.checks.proofs.entries_sound.Goals as goal
-use Rattle.checks.proofs.entries_sound.Goals.{then-marked+else-number_among, else-marked}
+use Rattle.checks.proofs.entries_sound.Goals.{else-marks-mark-via-then-marks-mark+else-number_among, else-marks-mark-via-else-marks-mark}
 
 pub loop-i-init : goal.loop-i-init
 loop-i-init c =
@@ -23,7 +23,6 @@ loop-i-init c =
     let es = entries_in times words in
     let count = start.args.count in
     let fits : count ≤ length es = omega (arith, entries_length times words) in (
-      omega arith,
       refl,
       λ n e. absurd (true≢false (sym e ∙ among_none es count count fits n (omega arith))),
       entries_none es count count fits (omega arith),
@@ -73,21 +72,20 @@ loop-i-preserved c =
     let same : get_or es i no_entry ≡ e = entry_at times words i (omega arith) ∙ sym c.entry_at-e.ensures in
     let next : loop.i ≡ i + 1 = omega arith in
     let rest : ℕ → List Entry = λ j. drop j (take count es) in
-    let marked = subst (λ (j : ℕ). Marked loop.marks (rest j)) next loop.invariant.2 in
+    let marked = subst (λ (j : ℕ). Marked loop.marks (rest j)) next loop.invariant.1 in
     let here : entry_sound (get_or es i no_entry) ≡ true = rw same (sym c.entry_sound.ensures ∙ c.if-not-entry_sound.false) in
     let once : number_among e.number (rest (i + 1)) ≡ false =
-    elim c.if-marked.branch [
-      | then-marked+else-number_among w ↦ sym w.number_among.ensures ∙ w.if-number_among.false
-      | else-marked w ↦ unmarked_none loop.marks (rest (i + 1)) e.number marked w.if-marked.false
+    elim c.else-marks-mark.branch [
+      | else-marks-mark-via-then-marks-mark+else-number_among w ↦ sym w.number_among.ensures ∙ w.if-number_among.false
+      | else-marks-mark-via-else-marks-mark w ↦ unmarked_none loop.marks (rest (i + 1)) e.number marked w.if-marks-mark.false
     ] in (
-      omega arith,
-      length-set loop.marks _ _ ∙ loop.invariant.1,
-      subst (λ (x : Entry). Marked (set loop.marks (x.number % 64) true) (rest i)) same (marked_turn es count i fits loop.marks (omega arith) loop.invariant.1 marked),
-      entries_on es count i fits (omega arith) here (rw same once) ∙ ap (λ (j : ℕ). entries_sound (rest j)) (sym next) ∙ loop.invariant.3,
+      length-set loop.marks _ _ ∙ loop.invariant.0,
+      subst (λ (x : Entry). Marked (set loop.marks (x.number % 64) true) (rest i)) same (marked_turn es count i fits loop.marks (omega arith) loop.invariant.0 marked),
+      entries_on es count i fits (omega arith) here (rw same once) ∙ ap (λ (j : ℕ). entries_sound (rest j)) (sym next) ∙ loop.invariant.2,
     )
 
 pub returns : goal.returns
 returns c =
     let start = c in
     let none : c.loop-i.i ≡ 0 = omega arith in
-    sym (subst (λ (j : ℕ). entries_sound (drop j (take start.args.count (entries_in start.args.times.now start.args.words.now))) ≡ true) none c.loop-i.invariant.3)
+    sym (subst (λ (j : ℕ). entries_sound (drop j (take start.args.count (entries_in start.args.times.now start.args.words.now))) ≡ true) none c.loop-i.invariant.2)

@@ -1,6 +1,5 @@
 use mathlib.Core.Path.{◌≡◌}
 use mathlib.Core.Bool.{true}
-use Prim.Native.Nat.{◌≤◌}
 use lib.ListN.{length, take, drop}
 use Rattle.calls.specs.Sound.{entries_sound}
 use Rattle.arrays.specs.Lent.{entries_in}
@@ -9,10 +8,6 @@ use Rattle.checks.proofs.entries_sound.Given as goal
 
 abbrev pub invariant-loop-i : goal.invariant-loop-i
 invariant-loop-i l =
-    (l.i ≤ l.count)
-    × (length l.marks ≡ 64)
+    (length l.marks ≡ 64)
     × Marked l.marks (drop l.i (take l.count (entries_in l.times l.words)))
     × (entries_sound (drop l.i (take l.count (entries_in l.times l.words))) ≡ true)
-
-abbrev pub decreases-loop-i : goal.decreases-loop-i
-decreases-loop-i l = l.i

@@ -1,22 +1,23 @@
 -- `checks::none_half` meets its contract. Assumes nothing.
-use mathlib.Core.Path.{sym, ap, ◌∙◌}
-use native.Mathlib.Nat.{zero-add}
-use native.Mathlib.Omega.{arith}
+use Rattle.std.proofs.Common.{rules}
+use borrow.Author.Tests.{tests}
+use mathlib.Core.Path.{◌≡◌, refl, sym, ap, ◌∙◌}
+use mathlib.Core.Bool.{Bool, true, ◌&&◌}
+use mathlib.Core.List.{List}
+use Prim.Native.Nat.{ℕ}
+use lib.Dec.{eqb}
+use Rattle.std.proofs.iter.Yields.{fronts}
+use Rattle.std.proofs.lemmas.Fn.{fold_over}
+use Rattle.std.proofs.lemmas.Iterator.{YieldsList-from_slice}
 use Rattle.programmes.specs.inner.Moving.{none_half}
-use Rattle.programmes.proofs.Empty.{none_turn, none_end}
-use Rattle.arrays.proofs.Tabled.{part_all}
+use Rattle.checks.proofs.Turns.{none_push}
 use Rattle.checks.proofs.none_half.Goals as goal
 
-pub loop-k-init : goal.loop-k-init
-loop-k-init c = (omega arith, ap none_half (part_all _ 21 c.requires))
-
-pub loop-k-preserved : goal.loop-k-preserved
-loop-k-preserved c =
-    let loop = c.loop-k in
-    let half = c.args.half.now in
-    (omega arith, rw (zero-add loop.k) at (sym (none_turn loop.none half 0 loop.k 21 (omega arith) (omega arith)) ∙ loop.invariant.1))
-
 pub returns : goal.returns
+unfolding none_half
 returns c =
-    let loop = c.loop-k in
-    sym (none_end loop.none c.args.half.now 0 loop.k 21 c.loop-k-test.false) ∙ loop.invariant.1
+    fold_over (fronts {A = ℕ}) (λ y. y.now) _ (λ (ns : List ℕ) (b : Bool). b ≡ none_half ns) _
+    (λ ys a x b f j k.
+    let here : b ≡ (a && eqb x.now 0) = search (rules, tests) in
+    (here ∙ ap (λ (z : Bool). z && eqb x.now 0) j ∙ sym (none_push ys x.now), search (rules, tests)))
+    c.iter.result c.args.half.now true c.fold.result (YieldsList-from_slice {s = c.iter.result} c.args.half.now cc).runs refl c.fold.ensures.ran

@@ -13,19 +13,19 @@ use Rattle.checks.proofs.Turns.{among_here, among_on, among_none}
 use Rattle.checks.proofs.number_among.Goals as goal
 
 pub loop-i-init : goal.loop-i-init
-loop-i-init c = (omega arith, refl)
+loop-i-init c = refl
 
-pub returns-then-e-number : goal.returns-then-e-number
-returns-then-e-number c =
+pub returns-then-entry_at-number : goal.returns-then-entry_at-number
+returns-then-entry_at-number c =
     let loop = c.loop-i in
     let start = c in
     let times = start.args.times.now in
     let words = start.args.words.now in
     let es = entries_in times words in
     let fits : start.args.count ≤ length es = omega (arith, entries_length times words) in
-    let same : get_or es loop.i no_entry ≡ c.entry_at-e.result = entry_at times words loop.i (omega arith) ∙ sym c.entry_at-e.ensures in
-    let here : eqb (get_or es loop.i no_entry).number start.args.number ≡ true = rw same (eq-eqb _ _ c.if-e-number.true) in
-    sym (loop.invariant.1 ∙ among_here es start.args.count loop.i fits start.args.number (omega arith) here)
+    let same : get_or es loop.i no_entry ≡ c.entry_at.result = entry_at times words loop.i (omega arith) ∙ sym c.entry_at.ensures in
+    let here : eqb (get_or es loop.i no_entry).number start.args.number ≡ true = rw same (eq-eqb _ _ c.if-entry_at-number.true) in
+    sym (loop.invariant ∙ among_here es start.args.count loop.i fits start.args.number (omega arith) here)
 
 pub loop-i-preserved : goal.loop-i-preserved
 loop-i-preserved c =
@@ -35,9 +35,9 @@ loop-i-preserved c =
     let words = start.args.words.now in
     let es = entries_in times words in
     let fits : start.args.count ≤ length es = omega (arith, entries_length times words) in
-    let same : get_or es loop.i no_entry ≡ c.entry_at-e.result = entry_at times words loop.i (omega arith) ∙ sym c.entry_at-e.ensures in
-    let here : eqb (get_or es loop.i no_entry).number start.args.number ≡ false = rw same (ne_eqb _ _ c.if-e-number.false) in
-    (omega arith, loop.invariant.1 ∙ among_on es start.args.count loop.i fits start.args.number (omega arith) here)
+    let same : get_or es loop.i no_entry ≡ c.entry_at.result = entry_at times words loop.i (omega arith) ∙ sym c.entry_at.ensures in
+    let here : eqb (get_or es loop.i no_entry).number start.args.number ≡ false = rw same (ne_eqb _ _ c.if-entry_at-number.false) in
+    loop.invariant ∙ among_on es start.args.count loop.i fits start.args.number (omega arith) here
 
 pub returns : goal.returns
 returns c =
@@ -47,4 +47,4 @@ returns c =
     let words = start.args.words.now in
     let es = entries_in times words in
     let fits : start.args.count ≤ length es = omega (arith, entries_length times words) in
-    sym (loop.invariant.1 ∙ among_none es start.args.count loop.i fits start.args.number (omega arith))
+    sym (loop.invariant ∙ among_none es start.args.count loop.i fits start.args.number (omega arith))

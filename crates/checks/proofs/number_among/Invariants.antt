@@ -1,5 +1,4 @@
 use mathlib.Core.Path.{◌≡◌}
-use Prim.Native.Nat.{◌-◌, ◌≤◌}
 use lib.ListN.{take, drop}
 use Rattle.calls.specs.Sound.{number_among}
 use Rattle.arrays.specs.Lent.{entries_in}
@@ -7,7 +6,4 @@ use Rattle.checks.proofs.number_among.Given as goal
 
 abbrev pub invariant-loop-i : goal.invariant-loop-i
 invariant-loop-i l =
-    (l.i ≤ l.count) × (number_among l.number (drop l.start (take l.count (entries_in l.times l.words))) ≡ number_among l.number (drop l.i (take l.count (entries_in l.times l.words))))
-
-abbrev pub decreases-loop-i : goal.decreases-loop-i
-decreases-loop-i l = l.count - l.i
+    number_among l.number (drop l.start (take l.count (entries_in l.times l.words))) ≡ number_among l.number (drop l.i (take l.count (entries_in l.times l.words)))

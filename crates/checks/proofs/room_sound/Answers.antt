@@ -21,14 +21,14 @@ overflow_sub-memory c = omega (arith, c.room_base-base.ensures, room_fits c.args
 
 pub slice_bounds-stage_of-end : goal.slice_bounds-stage_of-end
 slice_bounds-stage_of-end c =
-    omega (arith, c.least-n.ensures.1, c.room_base-base.ensures, room_fits c.args.room c.requires.1)
+    omega (arith, c.min-n.ensures, c.room_base-base.ensures, room_fits c.args.room c.requires.1)
 
 pub returns : goal.returns
 returns c =
     let args = c.args in
-    let least = c.least-n in
+    let least = c.min-n in
     let base = c.room_base-base in
     let m = args.memory.now in
-    let cut = part_lent m base.result least.result ∙ part_cut m base.result args.half least.result least.ensures.0 least.ensures.2 in
+    let cut = part_lent m base.result least.result ∙ part_cut m base.result args.half least.result (omega (arith, least.ensures)) (λ l. omega (arith, least.ensures, l)) in
     let stage = rw (cut, base.ensures, c.greatest_length-top.ensures) at c.stage_of-stage.ensures in
     c.is_more.ensures ∙ ap is_more stage

@@ -12,7 +12,7 @@ pub returns-then-none_half : goal.returns-then-none_half
 returns-then-none_half c = sym (none_rooms _ c.args.memory.now (sym c.none_half.ensures ∙ c.if-none_half.true))
 
 pub loop-room-init : goal.loop-room-init
-loop-room-init c = (omega arith, refl)
+loop-room-init c = refl
 
 pub offset_bounds-half-room : goal.offset_bounds-half-room
 offset_bounds-half-room c =
@@ -35,7 +35,7 @@ returns-then-not-room_sound c =
     let loop = c.loop-room in
     let most = c.rooms_used-top.ensures.0 in
     let here = sym c.room_sound.ensures ∙ c.if-not-room_sound.true in
-    sym (loop.invariant.1 ∙ rooms_turn a.half.now a.memory.now loop.room (21 - loop.room) (21 - (loop.room + 1)) (omega (arith, most, c.loop-room-test.true)) ∙ rw here)
+    sym (loop.invariant ∙ rooms_turn a.half.now a.memory.now loop.room (21 - loop.room) (21 - (loop.room + 1)) (omega (arith, most, c.loop-room-test.true)) ∙ rw here)
 
 pub loop-room-preserved : goal.loop-room-preserved
 loop-room-preserved c =
@@ -43,12 +43,12 @@ loop-room-preserved c =
     let loop = c.loop-room in
     let most = c.rooms_used-top.ensures.0 in
     let here = sym c.room_sound.ensures ∙ c.if-not-room_sound.false in
-    (omega (arith, c.loop-room-test.true), loop.invariant.1 ∙ rooms_turn a.half.now a.memory.now loop.room (21 - loop.room) (21 - (loop.room + 1)) (omega (arith, most, c.loop-room-test.true)) ∙ rw here)
+    loop.invariant ∙ rooms_turn a.half.now a.memory.now loop.room (21 - loop.room) (21 - (loop.room + 1)) (omega (arith, most, c.loop-room-test.true)) ∙ rw here
 
 pub returns : goal.returns
 returns c =
     let a = c.args in
     let loop = c.loop-room in
     let used = c.rooms_used-top in
-    let at : loop.room ≡ used.result = omega (arith, loop.invariant.0, c.loop-room-test.false) in
-    sym (loop.invariant.1 ∙ ap (λ (r : ℕ). rooms_from a.half.now a.memory.now r (21 - r)) at ∙ used.ensures.1 a.memory.now)
+    let at : loop.room ≡ used.result = omega (arith, used.ensures.0) in
+    sym (loop.invariant ∙ ap (λ (r : ℕ). rooms_from a.half.now a.memory.now r (21 - r)) at ∙ used.ensures.1 a.memory.now)

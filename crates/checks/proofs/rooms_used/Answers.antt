@@ -8,6 +8,6 @@ use Rattle.checks.proofs.rooms_used.Goals as goal
 pub returns-then-none_listed : goal.returns-then-none_listed
 returns-then-none_listed c = (omega arith, λ m. listed_rooms c.args.half.now m (sym c.none_listed.ensures ∙ c.if-none_listed.true))
 
-pub returns : goal.returns
+pub returns-else-none_listed : goal.returns-else-none_listed
 unfolding rooms_from
-returns c = (omega arith, λ m. refl)
+returns-else-none_listed c = (omega arith, λ m. refl)

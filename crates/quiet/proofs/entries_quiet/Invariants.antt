@@ -1,15 +1,9 @@
 use mathlib.Core.Path.{◌≡◌}
-use Prim.Native.Nat.{◌-◌, ◌≤◌}
 use lib.ListN.{length, take, drop}
-use Rattle.arrays.specs.Lent.{entries_in}
 use Rattle.quiet.specs.inner.Quiet.{entries_quiet, unmarked}
 use Rattle.quiet.proofs.entries_quiet.Given as goal
 
 abbrev pub invariant-loop-k : goal.invariant-loop-k
-invariant-loop-k l =
-    (l.k ≤ l.count)
-    × (length l.marks ≡ 64)
-    × (entries_quiet l.p l.t l.q unmarked (take l.count (entries_in l.times l.words)) ≡ entries_quiet l.p l.t l.q l.marks (drop l.k (take l.count (entries_in l.times l.words))))
-
-abbrev pub decreases-loop-k : goal.decreases-loop-k
-decreases-loop-k l = l.count - l.k
+invariant-loop-k g l =
+    let es = (g.S.Standing.state l.standing).core.entries in
+    (length l.marks ≡ 64) × (entries_quiet l.p l.t l.q unmarked (take l.count es) ≡ entries_quiet l.p l.t l.q l.marks (drop l.k (take l.count es)))

@@ -4,4 +4,4 @@ use Rattle.checks.proofs.Rooms.{none_rooms}
 use Rattle.quiet.proofs.rest_quiet.Goals as goal
 
 pub returns-then-none_half : goal.returns-then-none_half
-returns-then-none_half c = sym (none_rooms _ c.args.memory.now (sym c.none_half.ensures ∙ c.if-none_half.true))
+returns-then-none_half c = c.if-none_half.true ∙ sym (none_rooms _ c.args.memory.now (sym c.none_half.ensures ∙ c.if-none_half.true))

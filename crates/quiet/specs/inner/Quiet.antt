@@ -21,8 +21,8 @@
 --   count_quiet x b        == a packet of which only the counter is looked at, with nothing to be said of it
 --   quiet_call s m t x b   == a call that refusals 1 to 4 pass is quiet
 --   quiet_byte x b         == the byte after step 3, or after step 4, `counted_of` again
---   glance_of quiet x b    == what is told of a call: whether it is quiet, and then the byte that it leaves
-use Rattle.std.specs.Prelude.{ℕ, ◌%◌, Bool, true, false, cond, not, ◌&&◌, ◌||◌, List, [], ◌∷◌, leb, eqb, get_or, set, replicate}
+--   glance_of quiet x b    == what is told of a call: the byte that it leaves, where it is quiet
+use Rattle.std.specs.Prelude.{ℕ, ◌%◌, Bool, true, false, cond, not, ◌&&◌, ◌||◌, List, [], ◌∷◌, leb, eqb, get_or, set, replicate, Option, Some, None}
 use Rattle.lateness.specs.Gaps.{due}
 use Rattle.watches.specs.declared.Entry.{Entry}
 use Rattle.watches.specs.Tables.{fixed_tables}
@@ -34,7 +34,6 @@ use Rattle.calls.specs.declared.Core.{Core}
 use Rattle.calls.specs.declared.State.{State}
 use Rattle.calls.specs.Cores.{listed}
 use Rattle.calls.specs.Sound.{greatest_pid, time_sound, rooms_sound}
-use Rattle.quiet.specs.declared.Glance.{Glance}
 
 -- WATCHES
 abbrev pub none : List ℕ → Bool
@@ -112,5 +111,5 @@ quiet_call s m t x b = cond (count_quiet x b) (state_quiet s m t (pid_of x)) fal
 abbrev pub quiet_byte : List ℕ → ℕ → ℕ
 quiet_byte x b = cond (idle_packet x) b (counted_of b (header_of x)).byte
 
-abbrev pub glance_of : Bool → List ℕ → ℕ → Glance
-glance_of quiet x b = cond quiet (record { quiet = true; byte = quiet_byte x b }) (record { quiet = false; byte = 0 })
+abbrev pub glance_of : Bool → List ℕ → ℕ → Option ℕ
+glance_of quiet x b = cond quiet (Some (quiet_byte x b)) None

@@ -3,7 +3,7 @@ use native.Mathlib.Omega.{arith}
 use mathlib.Core.Path.{refl, sym, ap, ◌∙◌}
 use lib.ListN.{length, get_or}
 use Rattle.lists.proofs.Places.{part_length}
-use Rattle.lists.proofs.Laying.{laid_length, laid_turn}
+use Rattle.lists.proofs.Laying.{laid_turn}
 use Rattle.events.specs.Events.{numbers_of}
 use Rattle.events.specs.Capacity.{record_width}
 use Rattle.watches.specs.Tables.{fixed_tables, fixed_count}
@@ -19,14 +19,14 @@ pub late_tables-next-requires : goal.late_tables-next-requires
 late_tables-next-requires c =
     let start = c in
     let gaps = c.gaps_of.ensures in
-    (omega arith, start.requires.1, ap length gaps ∙ part_length start.args.times.now gaps_at fixed_count (omega (arith, start.requires.0.long)), rw gaps start.requires.3)
+    (omega arith, omega arith, ap length gaps ∙ part_length start.args.times.now gaps_at fixed_count (omega arith), rw gaps start.requires.1)
 
 pub late_entries-requires : goal.late_entries-requires
 late_entries-requires c =
     let start = c in
     let tables = rw c.gaps_of.ensures at c.late_tables-next.ensures in
     let times = start.args.times.now in
-    (start.requires.0, omega (arith, tables.0, tables_whole (get_or times latest_at 0) start.args.time (gaps_in times)), omega (arith, start.requires.1, ap length tables.1 ∙ laid_length _ _ _ _ _), start.requires.2, start.requires.4)
+    (omega (arith, tables.0, tables_whole (get_or times latest_at 0) start.args.time (gaps_in times)), start.requires.0, start.requires.2)
 
 pub returns : goal.returns
 unfolding late_of
@@ -42,7 +42,7 @@ returns c =
     rw (rows_append p t (table_rows fixed_tables (gaps_in times)) (entry_rows (listed_in times words))) (
       omega (arith, w.0),
       w.1,
-      omega (arith, tables.0, entries.0, start.requires.2, tables_whole p t (gaps_in times), entries_most p t (count_in words) (entries_in times words)),
+      omega (arith, tables.0, entries.0, start.requires.0, tables_whole p t (gaps_in times), entries_most p t (count_in words) (entries_in times words)),
       rw (sym (rows_append p t (table_rows fixed_tables (gaps_in times)) (entry_rows (listed_in times words))))
-          (late_of_fits p t (core_in times words) start.requires.3 start.requires.4 entries.2),
+          (late_of_fits p t (core_in times words) start.requires.1 start.requires.2 entries.2),
     )

@@ -12,7 +12,7 @@ use Rattle.arrays.proofs.Stores.{entry_at, entries_length}
 use Rattle.engine.proofs.lent.late_entries.Goals as goal
 
 pub loop-k-init : goal.loop-k-init
-loop-k-init c = (omega arith, c.count_in-count.ensures, rw (rows_none _ _) (omega arith), rw (rows_none _ _) (sym (laid_none _ _ _ _)), λ i h. absurd (omega arith))
+loop-k-init c = (c.count_in-count.ensures, rw (rows_none _ _) (omega arith), rw (rows_none _ _) (sym (laid_none _ _ _ _)), λ i h. absurd (omega arith))
 
 pub late_entry-m-requires : goal.late_entry-m-requires
 late_entry-m-requires c =
@@ -22,8 +22,8 @@ late_entry-m-requires c =
     let words = start.args.words.now in
     let same = c.entry_at-e.ensures ∙ sym (entry_at times words loop.k (omega arith)) in (
       omega (arith, entries_most (get_or times latest_at 0) start.args.time loop.k (entries_in times words)),
-      rw (loop.invariant.3, laid_length) start.requires.2,
-      rw same (start.requires.4 loop.k (omega arith)),
+      omega (arith, ap length loop.invariant.2 ∙ laid_length _ _ _ _ _),
+      rw same (start.requires.2 loop.k (omega arith)),
     )
 
 pub loop-k-preserved : goal.loop-k-preserved
@@ -34,15 +34,12 @@ loop-k-preserved c =
     let words = start.args.words.now in
     let same = c.entry_at-e.ensures ∙ sym (entry_at times words loop.k (omega arith)) in
     let late = rw same at c.late_entry-m.ensures in
-    let w = laid_turn numbers_of record_width (λ e. refl) _ _ _ _ _ _ _ _ loop.invariant.2 loop.invariant.3 late.0 late.1 in
+    let w = laid_turn numbers_of record_width (λ e. refl) _ _ _ _ _ _ _ _ loop.invariant.1 loop.invariant.2 late.0 late.1 in
     rw (entries_turn (get_or times latest_at 0) start.args.time loop.k (entries_in times words) (omega (arith, entries_length times words)))
-    (omega arith, loop.invariant.1, w.0, w.1, below_more _ _ loop.invariant.4 late.2)
-
-pub shape_of-numbers : goal.shape_of-numbers
-shape_of-numbers c = ap length c.loop-k.invariant.3 ∙ laid_length _ _ _ _ _
+    (loop.invariant.0, w.0, w.1, below_more _ _ loop.invariant.3 late.2)
 
 pub returns : goal.returns
 returns c =
     let loop = c.loop-k in
     let all : loop.k ≡ count_in c.args.words.now = omega arith in
-    (rw all at loop.invariant.2, rw all at loop.invariant.3, rw all at loop.invariant.4)
+    (rw all at loop.invariant.1, rw all at loop.invariant.2, rw all at loop.invariant.3)

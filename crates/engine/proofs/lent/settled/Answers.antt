@@ -1,55 +1,54 @@
--- `engine::lent/clock_in` meets its contract. Assumes nothing.
+-- `engine::lent/settled` meets its contract. Assumes nothing.
+use Rattle.std.proofs.Common.{rules}
 use native.Mathlib.Omega.{arith}
-use mathlib.Core.Path.{sym, ◌∙◌}
+use mathlib.Core.Path.{◌≡◌, sym}
+use Rattle.std.specs.Prelude.{Err}
 use Rattle.calls.proofs.Accepted.{clock_accepted, sound_parts, entry_since}
 use Rattle.arrays.specs.Lent.{state_in}
 use Rattle.arrays.specs.inner.Kept.{Sized}
+use Rattle.checks.specs.Refusals.{refusal_number}
+use Rattle.checks.proofs.Ladders.{number_given}
 use Rattle.engine.proofs.Ends.{sound_run, clock_refused, clock_done}
-use Rattle.engine.proofs.lent.clock_in.Goals as goal
+use Rattle.engine.proofs.lent.settled.Goals as goal
 
-pub returns-then-refusal-ne0 : goal.returns-then-refusal-ne0
-returns-then-refusal-ne0 c =
-    let start = c in
-    let args = start.args in
+pub returns-in_err-check_clock : goal.returns-in_err-check_clock
+returns-in_err-check_clock c =
+    let args = c.args in
     let times = args.times.now in
     let words = args.words.now in
-    let sized : Sized times words = record { long = c.time_count-t.ensures.1; wide = c.word_count-w.ensures.1 } in
-    clock_refused times words args.time args.memory.now args.capacity args.numbers.now c.clock_refusal-refusal.result c.clock_refusal-refusal.ensures c.if-refusal-ne0.true
+    let r = c.in_err-check_clock.field-0.0 in
+    let same : c.from_residual.result ≡ Err r = search rules in
+    rw same (clock_refused times words args.time args.memory.now args.capacity args.numbers.now (refusal_number r) c.in_err-check_clock.ensures (number_given r))
 
 pub judge_late-late-requires : goal.judge_late-late-requires
 unfolding state_in
 judge_late-late-requires c =
-    let start = c in
-    let args = start.args in
+    let args = c.args in
     let times = args.times.now in
     let words = args.words.now in
-    let sized : Sized times words = record { long = c.time_count-t.ensures.1; wide = c.word_count-w.ensures.1 } in
-    let e = sym c.clock_refusal-refusal.ensures ∙ c.if-refusal-ne0.false in
+    let e = sym c.in_ok-check_clock.ensures in
     let a = clock_accepted (state_in times words) args.time args.memory.now args.capacity e in
     let h = sound_parts (state_in times words) args.memory.now a.sound in
-    (sized, omega (arith, c.numbers_size-places.ensures.1), h.count, h.since, entry_since (state_in times words) args.memory.now h)
+    (h.count, h.since, entry_since (state_in times words) args.memory.now h)
 
 pub settle-requires : goal.settle-requires
 unfolding state_in
 settle-requires c =
-    let start = c in
-    let args = start.args in
+    let args = c.args in
     let times = args.times.now in
     let words = args.words.now in
-    let sized : Sized times words = record { long = c.time_count-t.ensures.1; wide = c.word_count-w.ensures.1 } in
-    let e = sym c.clock_refusal-refusal.ensures ∙ c.if-refusal-ne0.false in
+    let sized : Sized times words = record { long = omega arith; wide = omega arith } in
+    let e = sym c.in_ok-check_clock.ensures in
     let a = clock_accepted (state_in times words) args.time args.memory.now args.capacity e in
     let h = sound_parts (state_in times words) args.memory.now a.sound in
     (sized.long, sized.wide, h.count, sound_run (state_in times words) args.memory.now h)
 
 pub returns : goal.returns
 returns c =
-    let start = c in
-    let args = start.args in
+    let args = c.args in
     let times = args.times.now in
     let words = args.words.now in
-    let sized : Sized times words = record { long = c.time_count-t.ensures.1; wide = c.word_count-w.ensures.1 } in
-    let e = sym c.clock_refusal-refusal.ensures ∙ c.if-refusal-ne0.false in
+    let e = sym c.in_ok-check_clock.ensures in
     let a = clock_accepted (state_in times words) args.time args.memory.now args.capacity e in
     let h = sound_parts (state_in times words) args.memory.now a.sound in
     let l = c.judge_late-late.ensures in
