@@ -1,7 +1,7 @@
 // What reading and writing give, in lines.
 use std::io;
 use std::io::Print;
-use testdata::{Cursor, Fields, Fixed, Head, Part, Reading, Step, Syntax, Written};
+use testdata::{Cursor, Descriptor, Fields, Fixed, Head, Part, Refusal, Section, Syntax};
 
 pub fn text(rt: &impl Print, s: &str) -> io::Result<()> {
     print!(rt; "{s}")
@@ -98,32 +98,32 @@ fn fixed_of(rt: &impl Print, d: Fixed) -> io::Result<()> {
     text(rt, "\n")
 }
 
-#[derive(Clone, Copy)]
-enum After {
-    Next(Cursor),
-    Stop,
+// The number of a refusal, behind what was refused, and the end of the line.
+pub fn refused_of(rt: &impl Print, what: &str, e: Refusal) -> io::Result<()> {
+    text(rt, what)?;
+    number(rt, u64::from(u8::from(e)))?;
+    text(rt, "\n")
 }
 
-// The descriptor at a cursor, in a line.
-fn descriptor_of(rt: &impl Print, s: &[u8], at: Cursor) -> io::Result<After> {
+// The descriptor at a cursor, in a line; the cursor behind it, none at the end and on a refusal.
+fn descriptor_of(rt: &impl Print, s: &[u8], at: Cursor) -> io::Result<Option<Cursor>> {
     match testdata::descriptor_at(s, at) {
-        Step::Known(d, next) => {
-            fixed_of(rt, d)?;
-            Ok(After::Next(next))
+        Ok(Some(step)) => {
+            match step.descriptor {
+                Descriptor::Known(d) => fixed_of(rt, d)?,
+                Descriptor::Other { tag, body } => {
+                    text(rt, "  tag")?;
+                    number(rt, tag as u64)?;
+                    part_of(rt, " at", body)?;
+                    text(rt, "\n")?;
+                }
+            }
+            Ok(Some(step.next))
         }
-        Step::Other { tag, body, next } => {
-            text(rt, "  tag")?;
-            number(rt, tag as u64)?;
-            part_of(rt, " at", body)?;
-            text(rt, "\n")?;
-            Ok(After::Next(next))
-        }
-        Step::End => Ok(After::Stop),
-        Step::Refused(n) => {
-            text(rt, "  refused")?;
-            number(rt, n as u64)?;
-            text(rt, "\n")?;
-            Ok(After::Stop)
+        Ok(None) => Ok(None),
+        Err(e) => {
+            refused_of(rt, "  refused", e)?;
+            Ok(None)
         }
     }
 }
@@ -133,10 +133,10 @@ fn descriptors_of(rt: &impl Print, s: &[u8], c: Cursor) -> io::Result<()> {
     let mut at = c;
     for _ in 0..40usize {
         match descriptor_of(rt, s, at)? {
-            After::Next(next) => {
+            Some(next) => {
                 at = next;
             }
-            After::Stop => {
+            None => {
                 return Ok(());
             }
         }
@@ -144,35 +144,21 @@ fn descriptors_of(rt: &impl Print, s: &[u8], c: Cursor) -> io::Result<()> {
     Ok(())
 }
 
-// Whether the first n bytes of the place are those of s.
-fn same_front(place: &[u8], n: usize, s: &[u8]) -> bool {
-    if place.len() < n {
-        return false;
-    }
-    let front = &place[..n];
-    front == s
-}
-
 // Whether writing the fields, loop and data again gives the same bytes.
-fn again(rt: &impl Print, s: &[u8], f: Fields, l: Part, d: Part) -> io::Result<()> {
+fn again(rt: &impl Print, s: &[u8], found: Section) -> io::Result<()> {
     let mut place = [0u8; 4096];
-    let loop_bytes = testdata::bytes_of(s, l);
-    let data = testdata::bytes_of(s, d);
-    match testdata::write(f, loop_bytes, data, &mut place) {
-        Written::Length(n) => {
-            if same_front(&place, n, s) {
-                text(rt, "  again\n")?;
+    let loop_bytes = testdata::bytes_of(s, found.descriptors);
+    let data = testdata::bytes_of(s, found.data);
+    match testdata::write(found.fields, loop_bytes, data, &mut place) {
+        Ok(n) => {
+            if place.get(..n) == Some(s) {
+                text(rt, "  again\n")
             } else {
-                text(rt, "  differs\n")?;
+                text(rt, "  differs\n")
             }
         }
-        Written::Refused(n) => {
-            text(rt, "  not again")?;
-            number(rt, n as u64)?;
-            text(rt, "\n")?;
-        }
+        Err(e) => refused_of(rt, "  not again", e),
     }
-    Ok(())
 }
 
 // What reading gives, its descriptors, and what writing that again gives.
@@ -180,36 +166,17 @@ pub fn show(rt: &impl Print, name: &str, s: &[u8]) -> io::Result<()> {
     text(rt, name)?;
     number(rt, s.len() as u64)?;
     match testdata::read(s) {
-        Reading::Section {
-            fields,
-            descriptors,
-            data,
-        } => {
-            fields_of(rt, fields)?;
-            part_of(rt, " loop", descriptors)?;
-            part_of(rt, " data", data)?;
+        Ok(found) => {
+            fields_of(rt, found.fields)?;
+            part_of(rt, " loop", found.descriptors)?;
+            part_of(rt, " data", found.data)?;
             text(rt, "\n")?;
-            let at = descriptors.at;
-            let len = descriptors.len;
-            if at <= 4096 {
-                if len <= 4096 {
-                    descriptors_of(
-                        rt,
-                        s,
-                        Cursor {
-                            at: at,
-                            end: at + len,
-                        },
-                    )?;
-                }
+            let Part { at, len } = found.descriptors;
+            if (at <= 4096) & (len <= 4096) {
+                descriptors_of(rt, s, Cursor { at, end: at + len })?;
             }
-            again(rt, s, fields, descriptors, data)?;
+            again(rt, s, found)
         }
-        Reading::Refused(n) => {
-            text(rt, " refused")?;
-            number(rt, n as u64)?;
-            text(rt, "\n")?;
-        }
+        Err(e) => refused_of(rt, " refused", e),
     }
-    Ok(())
 }

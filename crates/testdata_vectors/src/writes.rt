@@ -1,14 +1,14 @@
 // Sections and descriptors that are written, and what the writers answer.
-use crate::show::{hex, number, show, text};
+use crate::show::{hex, number, refused_of, show, text};
 use std::io;
 use std::io::Print;
-use testdata::{Fields, Fixed, Head, Syntax, Written};
+use testdata::{Fields, Fixed, Head, Refusal, Syntax};
 
 pub fn head(table_id: u8, priority: u8, reserved: u8) -> Head {
     Head {
-        table_id: table_id,
-        priority: priority,
-        reserved: reserved,
+        table_id,
+        priority,
+        reserved,
     }
 }
 
@@ -17,45 +17,41 @@ pub fn syntax(reserved: u8, version: u8, current_next: u8, reserved_loop: u8) ->
     Syntax {
         user_defined: 1,
         extension: 1,
-        reserved: reserved,
-        version: version,
-        current_next: current_next,
+        reserved,
+        version,
+        current_next,
         number: 0,
         last: 0,
-        reserved_loop: reserved_loop,
+        reserved_loop,
     }
 }
 
 pub fn gps(north_south: u8, latitude: u32, east_west: u8, longitude: u32, elevation: u16) -> Fixed {
     Fixed::Gps {
-        north_south: north_south,
-        latitude: latitude,
-        east_west: east_west,
-        longitude: longitude,
-        elevation: elevation,
+        north_south,
+        latitude,
+        east_west,
+        longitude,
+        elevation,
     }
 }
 
-pub fn wrote(rt: &impl Print, w: Written) -> io::Result<()> {
+pub fn wrote(rt: &impl Print, w: Result<usize, Refusal>) -> io::Result<()> {
     match w {
-        Written::Length(n) => {
+        Ok(n) => {
             text(rt, " length")?;
-            number(rt, n as u64)?;
+            number(rt, n as u64)
         }
-        Written::Refused(n) => {
+        Err(e) => {
             text(rt, " refused")?;
-            number(rt, n as u64)?;
+            number(rt, u64::from(u8::from(e)))
         }
     }
-    Ok(())
 }
 
 // The first n bytes of s, or all of it.
 fn front(s: &[u8], n: usize) -> &[u8] {
-    if s.len() < n {
-        return s;
-    }
-    &s[..n]
+    s.get(..n).unwrap_or(s)
 }
 
 pub fn show_front(rt: &impl Print, name: &str, s: &[u8], n: usize) -> io::Result<()> {
@@ -73,7 +69,7 @@ pub fn written(
 ) -> io::Result<()> {
     let mut place = [0u8; 4096];
     match testdata::write(f, loop_bytes, data, &mut place) {
-        Written::Length(n) => {
+        Ok(n) => {
             text(rt, name)?;
             text(rt, " written")?;
             number(rt, n as u64)?;
@@ -82,26 +78,18 @@ pub fn written(
                 hex(rt, s)?;
             }
             text(rt, "\n")?;
-            show(rt, name, s)?;
+            show(rt, name, s)
         }
-        Written::Refused(n) => {
+        Err(e) => {
             text(rt, name)?;
-            text(rt, " not written")?;
-            number(rt, n as u64)?;
-            text(rt, "\n")?;
+            refused_of(rt, " not written", e)
         }
     }
-    Ok(())
 }
 
 // Whether the bytes from n on are still 0xAA.
 fn kept(s: &[u8], n: usize) -> bool {
-    for i in n..s.len() {
-        if s[i] != 0xAA {
-            return false;
-        }
-    }
-    true
+    s.iter().skip(n).all(|&b| b == 0xAA)
 }
 
 // What a writer answers for the first room bytes of the place, and whether all else is as it was.
@@ -119,12 +107,12 @@ fn refused_in(
     let w = testdata::write(f, loop_bytes, data, &mut place[..room]);
     wrote(rt, w)?;
     match w {
-        Written::Length(n) => {
+        Ok(n) => {
             if kept(place, n) {
                 text(rt, " rest kept")?;
             }
         }
-        Written::Refused(_) => {
+        Err(_) => {
             if kept(place, 0) {
                 text(rt, " untouched")?;
             }
