@@ -3,10 +3,10 @@ ghost use Rattle.std.specs.Prelude.{◌≡◌, length};
 ghost use Rattle.testdata.specs.Descriptors.{descriptor_told, tag_of, fixed_values};
 ghost use Rattle.testdata.specs.Writer.{fixed_told, fixed_memory, other_told, other_memory};
 ghost use Rattle.songpigeon.specs.Fields.{padded, write_reply};
-ghost use Rattle.songpigeon.specs.Descriptors.{cursor_at, found_of, values_after};
+ghost use Rattle.songpigeon.specs.Descriptors.{cursor_at, no_more_found, found_of, values_after};
 
 use crate::{Found, WriteReply, fields};
-use testdata::{Cursor, Fixed, Step};
+use testdata::{Cursor, Descriptor, Fixed};
 
 const NO_MORE: u8 = 0;
 
@@ -19,20 +19,10 @@ fn tag_of(d: Fixed) -> u8
     ensures { result ≡ tag_of d }
 {
     match d {
-        Fixed::ElementaryId { id_type: _, pid: _ } => 0x40,
-        Fixed::Gps {
-            north_south: _,
-            latitude: _,
-            east_west: _,
-            longitude: _,
-            elevation: _,
-        } => 0x45,
-        Fixed::ReducedPcr { base: _ } => 0x46,
-        Fixed::Program {
-            number: _,
-            reserved: _,
-            pid: _,
-        } => 0x47,
+        Fixed::ElementaryId { .. } => 0x40,
+        Fixed::Gps { .. } => 0x45,
+        Fixed::ReducedPcr { .. } => 0x46,
+        Fixed::Program { .. } => 0x47,
     }
 }
 
@@ -64,6 +54,20 @@ fn values_of(d: Fixed) -> [u32; 5]
     }
 }
 
+// What a host is told where no descriptor stands: a refusal, or 0, and the place itself.
+fn no_more(refusal: u8, at: usize) -> Found
+    ensures { result ≡ no_more_found refusal at }
+{
+    Found {
+        refusal,
+        kind: NO_MORE,
+        tag: 0,
+        at: 0,
+        length: 0,
+        next: at,
+    }
+}
+
 // What stands at a place among descriptors that end at another. A descriptor of fixed size writes its numbers;
 // else the lent ones stay. Refusals 13 and 14.
 pub fn songpigeon_testdata_descriptor(
@@ -75,43 +79,30 @@ pub fn songpigeon_testdata_descriptor(
     ensures { (result ≡ found_of at (descriptor_told bytes.now (cursor_at at end)))
         × (values.new ≡ values_after (descriptor_told bytes.now (cursor_at at end)) values.old) }
 {
-    let step = testdata::descriptor_at(bytes, Cursor { at, end });
-    match step {
-        Step::Known(d, next) => {
-            *values = values_of(d);
-            Found {
-                refusal: 0,
-                kind: OF_FIXED,
-                tag: tag_of(d),
-                at: 0,
-                length: 0,
-                next: next.at,
+    match testdata::descriptor_at(bytes, Cursor { at, end }) {
+        Ok(Some(step)) => match step.descriptor {
+            Descriptor::Known(d) => {
+                *values = values_of(d);
+                Found {
+                    refusal: 0,
+                    kind: OF_FIXED,
+                    tag: tag_of(d),
+                    at: 0,
+                    length: 0,
+                    next: step.next.at,
+                }
             }
-        }
-        Step::Other { tag, body, next } => Found {
-            refusal: 0,
-            kind: OF_OTHER,
-            tag,
-            at: body.at,
-            length: body.len,
-            next: next.at,
+            Descriptor::Other { tag, body } => Found {
+                refusal: 0,
+                kind: OF_OTHER,
+                tag,
+                at: body.at,
+                length: body.len,
+                next: step.next.at,
+            },
         },
-        Step::End => Found {
-            refusal: 0,
-            kind: NO_MORE,
-            tag: 0,
-            at: 0,
-            length: 0,
-            next: at,
-        },
-        Step::Refused(refusal) => Found {
-            refusal,
-            kind: NO_MORE,
-            tag: 0,
-            at: 0,
-            length: 0,
-            next: at,
-        },
+        Ok(None) => no_more(0, at),
+        Err(e) => no_more(u8::from(e), at),
     }
 }
 
