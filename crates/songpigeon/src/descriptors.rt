@@ -6,7 +6,7 @@ ghost use Rattle.songpigeon.specs.Fields.{padded, write_reply};
 ghost use Rattle.songpigeon.specs.Descriptors.{cursor_at, no_more_found, found_of, values_after};
 
 use crate::{Found, WriteReply, fields};
-use testdata::{Cursor, Descriptor, Fixed};
+use testdata::{Cursor, Descriptor, ELEMENTARY_TAG, Fixed, GPS_TAG, PROGRAM_TAG, REDUCED_PCR_TAG};
 
 const NO_MORE: u8 = 0;
 
@@ -19,10 +19,10 @@ fn tag_of(d: Fixed) -> u8
     ensures { result ≡ tag_of d }
 {
     match d {
-        Fixed::ElementaryId { .. } => 0x40,
-        Fixed::Gps { .. } => 0x45,
-        Fixed::ReducedPcr { .. } => 0x46,
-        Fixed::Program { .. } => 0x47,
+        Fixed::ElementaryId { .. } => ELEMENTARY_TAG,
+        Fixed::Gps { .. } => GPS_TAG,
+        Fixed::ReducedPcr { .. } => REDUCED_PCR_TAG,
+        Fixed::Program { .. } => PROGRAM_TAG,
     }
 }
 
@@ -111,8 +111,7 @@ pub fn songpigeon_testdata_elementary_id(id_type: u8, pid: u16, place: &mut [u8]
     ensures { (result ≡ write_reply (fixed_told (Fixed.ElementaryId id_type pid) (length place.old)))
         × (place.new ≡ fixed_memory (Fixed.ElementaryId id_type pid) place.old) }
 {
-    let written = testdata::write_fixed(Fixed::ElementaryId { id_type, pid }, place);
-    fields::write_reply(written)
+    fields::write_reply(testdata::write_fixed(Fixed::ElementaryId { id_type, pid }, place))
 }
 
 // Writes a GPS_descriptor (Table 14), likewise.
@@ -127,7 +126,7 @@ pub fn songpigeon_testdata_gps(
     ensures { (result ≡ write_reply (fixed_told (Fixed.Gps north_south latitude east_west longitude elevation) (length place.old)))
         × (place.new ≡ fixed_memory (Fixed.Gps north_south latitude east_west longitude elevation) place.old) }
 {
-    let written = testdata::write_fixed(
+    fields::write_reply(testdata::write_fixed(
         Fixed::Gps {
             north_south,
             latitude,
@@ -136,8 +135,7 @@ pub fn songpigeon_testdata_gps(
             elevation,
         },
         place,
-    );
-    fields::write_reply(written)
+    ))
 }
 
 // Writes a reduced_PCR_descriptor (Table 15), likewise.
@@ -145,8 +143,7 @@ pub fn songpigeon_testdata_reduced_pcr(base: u32, place: &mut [u8]) -> WriteRepl
     ensures { (result ≡ write_reply (fixed_told (Fixed.ReducedPcr base) (length place.old)))
         × (place.new ≡ fixed_memory (Fixed.ReducedPcr base) place.old) }
 {
-    let written = testdata::write_fixed(Fixed::ReducedPcr { base }, place);
-    fields::write_reply(written)
+    fields::write_reply(testdata::write_fixed(Fixed::ReducedPcr { base }, place))
 }
 
 // Writes a program_descriptor (Table 16), likewise.
@@ -159,15 +156,14 @@ pub fn songpigeon_testdata_program(
     ensures { (result ≡ write_reply (fixed_told (Fixed.Program number reserved pid) (length place.old)))
         × (place.new ≡ fixed_memory (Fixed.Program number reserved pid) place.old) }
 {
-    let written = testdata::write_fixed(
+    fields::write_reply(testdata::write_fixed(
         Fixed::Program {
             number,
             reserved,
             pid,
         },
         place,
-    );
-    fields::write_reply(written)
+    ))
 }
 
 // Writes a descriptor of any tag with its body as it is: its length. Refusals 14, 13, 15 in this order, and then
@@ -176,6 +172,5 @@ pub fn songpigeon_testdata_other(tag: u8, body: &[u8], place: &mut [u8]) -> Writ
     ensures { (result ≡ write_reply (other_told tag body.now (length place.old)))
         × (place.new ≡ other_memory tag body.now place.old) }
 {
-    let written = testdata::write_other(tag, body, place);
-    fields::write_reply(written)
+    fields::write_reply(testdata::write_other(tag, body, place))
 }
