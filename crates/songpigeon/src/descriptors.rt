@@ -5,7 +5,7 @@ ghost use Rattle.testdata.specs.Writer.{fixed_told, fixed_memory, other_told, ot
 ghost use Rattle.songpigeon.specs.Fields.{padded, write_reply};
 ghost use Rattle.songpigeon.specs.Descriptors.{cursor_at, no_more_found, found_of, values_after};
 
-use crate::{Found, WriteReply, fields};
+use crate::{Found, WriteReply};
 use testdata::{Cursor, Descriptor, ELEMENTARY_TAG, Fixed, GPS_TAG, PROGRAM_TAG, REDUCED_PCR_TAG};
 
 const NO_MORE: u8 = 0;
@@ -111,7 +111,7 @@ pub fn songpigeon_testdata_elementary_id(id_type: u8, pid: u16, place: &mut [u8]
     ensures { (result ≡ write_reply (fixed_told (Fixed.ElementaryId id_type pid) (length place.old)))
         × (place.new ≡ fixed_memory (Fixed.ElementaryId id_type pid) place.old) }
 {
-    fields::write_reply(testdata::write_fixed(Fixed::ElementaryId { id_type, pid }, place))
+    WriteReply::from(testdata::write_fixed(Fixed::ElementaryId { id_type, pid }, place))
 }
 
 // Writes a GPS_descriptor (Table 14), likewise.
@@ -126,7 +126,7 @@ pub fn songpigeon_testdata_gps(
     ensures { (result ≡ write_reply (fixed_told (Fixed.Gps north_south latitude east_west longitude elevation) (length place.old)))
         × (place.new ≡ fixed_memory (Fixed.Gps north_south latitude east_west longitude elevation) place.old) }
 {
-    fields::write_reply(testdata::write_fixed(
+    WriteReply::from(testdata::write_fixed(
         Fixed::Gps {
             north_south,
             latitude,
@@ -143,7 +143,7 @@ pub fn songpigeon_testdata_reduced_pcr(base: u32, place: &mut [u8]) -> WriteRepl
     ensures { (result ≡ write_reply (fixed_told (Fixed.ReducedPcr base) (length place.old)))
         × (place.new ≡ fixed_memory (Fixed.ReducedPcr base) place.old) }
 {
-    fields::write_reply(testdata::write_fixed(Fixed::ReducedPcr { base }, place))
+    WriteReply::from(testdata::write_fixed(Fixed::ReducedPcr { base }, place))
 }
 
 // Writes a program_descriptor (Table 16), likewise.
@@ -156,7 +156,7 @@ pub fn songpigeon_testdata_program(
     ensures { (result ≡ write_reply (fixed_told (Fixed.Program number reserved pid) (length place.old)))
         × (place.new ≡ fixed_memory (Fixed.Program number reserved pid) place.old) }
 {
-    fields::write_reply(testdata::write_fixed(
+    WriteReply::from(testdata::write_fixed(
         Fixed::Program {
             number,
             reserved,
@@ -172,5 +172,5 @@ pub fn songpigeon_testdata_other(tag: u8, body: &[u8], place: &mut [u8]) -> Writ
     ensures { (result ≡ write_reply (other_told tag body.now (length place.old)))
         × (place.new ≡ other_memory tag body.now place.old) }
 {
-    fields::write_reply(testdata::write_other(tag, body, place))
+    WriteReply::from(testdata::write_other(tag, body, place))
 }

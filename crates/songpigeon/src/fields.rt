@@ -109,15 +109,17 @@ pub fn songpigeon_testdata_read(section: &[u8], fields: &mut [u8; 12], places: &
 }
 
 // How a host is told of a writing.
-pub fn write_reply(written: Result<usize, Refusal>) -> WriteReply
-    ensures { result ≡ write_reply (written_says written) }
-{
-    match written {
-        Ok(length) => WriteReply { refusal: 0, length },
-        Err(e) => WriteReply {
-            refusal: u8::from(e),
-            length: 0,
-        },
+impl From<Result<usize, Refusal>> for WriteReply {
+    ghost from_gives = { λ written reply. reply ≡ write_reply (written_says written) };
+
+    fn from(written: Result<usize, Refusal>) -> WriteReply {
+        match written {
+            Ok(length) => WriteReply { refusal: 0, length },
+            Err(e) => WriteReply {
+                refusal: u8::from(e),
+                length: 0,
+            },
+        }
     }
 }
 
@@ -134,13 +136,15 @@ pub fn songpigeon_testdata_write(
     ensures { (result ≡ write_reply (bytes_told fields.now descriptors.now «data».now (length place.old)))
         × (place.new ≡ bytes_memory fields.now descriptors.now «data».now place.old) }
 {
-    if 1 < fields[0] {
+    let written = if 1 < fields[0] {
         let row = testdata::row_of(descriptors);
-        return write_reply(Err(if row.sizes {
+        Err(if row.sizes {
             Refusal::RunsPast
         } else {
             Refusal::BadSize
-        }));
-    }
-    write_reply(testdata::write(fields_in(fields), descriptors, data, place))
+        })
+    } else {
+        testdata::write(fields_in(fields), descriptors, data, place)
+    };
+    WriteReply::from(written)
 }
