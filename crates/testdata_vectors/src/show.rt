@@ -7,11 +7,6 @@ pub fn text(rt: &impl Print, s: &str) -> io::Result<()> {
     print!(rt; "{s}")
 }
 
-// A space and a number.
-pub fn number(rt: &impl Print, n: u64) -> io::Result<()> {
-    print!(rt; " {n}")
-}
-
 // The bytes, two digits each.
 pub fn hex(rt: &impl Print, s: &[u8]) -> io::Result<()> {
     text(rt, " ")?;
@@ -22,87 +17,60 @@ pub fn hex(rt: &impl Print, s: &[u8]) -> io::Result<()> {
 }
 
 fn part_of(rt: &impl Print, name: &str, p: Part) -> io::Result<()> {
-    text(rt, name)?;
-    number(rt, p.at as u64)?;
-    number(rt, p.len as u64)
+    print!(rt; "{name} {} {}", p.at, p.len)
 }
 
 fn head_of(rt: &impl Print, h: Head) -> io::Result<()> {
-    number(rt, h.table_id as u64)?;
-    number(rt, h.priority as u64)?;
-    number(rt, h.reserved as u64)
+    print!(rt; " {} {} {}", h.table_id, h.priority, h.reserved)
 }
 
 fn syntax_of(rt: &impl Print, x: Syntax) -> io::Result<()> {
-    number(rt, x.user_defined as u64)?;
-    number(rt, x.extension as u64)?;
-    number(rt, x.reserved as u64)?;
-    number(rt, x.version as u64)?;
-    number(rt, x.current_next as u64)?;
-    number(rt, x.number as u64)?;
-    number(rt, x.last as u64)?;
-    number(rt, x.reserved_loop as u64)
+    print!(rt;
+        " {} {} {} {}",
+        x.user_defined, x.extension, x.reserved, x.version
+    )?;
+    print!(rt;
+        " {} {} {} {}",
+        x.current_next, x.number, x.last, x.reserved_loop
+    )
 }
 
 fn fields_of(rt: &impl Print, f: Fields) -> io::Result<()> {
     match f {
         Fields::Plain(h) => {
             text(rt, " plain")?;
-            head_of(rt, h)?;
+            head_of(rt, h)
         }
         Fields::Generic(h, x) => {
             text(rt, " generic")?;
             head_of(rt, h)?;
-            syntax_of(rt, x)?;
+            syntax_of(rt, x)
         }
     }
-    Ok(())
 }
 
 fn fixed_of(rt: &impl Print, d: Fixed) -> io::Result<()> {
     match d {
-        Fixed::ElementaryId { id_type, pid } => {
-            text(rt, "  elementary")?;
-            number(rt, id_type as u64)?;
-            number(rt, pid as u64)?;
-        }
+        Fixed::ElementaryId { id_type, pid } => { print!(rt; "  elementary {id_type} {pid}\n") }
         Fixed::Gps {
             north_south,
             latitude,
             east_west,
             longitude,
             elevation,
-        } => {
-            text(rt, "  gps")?;
-            number(rt, north_south as u64)?;
-            number(rt, latitude as u64)?;
-            number(rt, east_west as u64)?;
-            number(rt, longitude as u64)?;
-            number(rt, elevation as u64)?;
-        }
-        Fixed::ReducedPcr { base } => {
-            text(rt, "  pcr")?;
-            number(rt, base as u64)?;
-        }
+        } => { print!(rt; "  gps {north_south} {latitude} {east_west} {longitude} {elevation}\n") }
+        Fixed::ReducedPcr { base } => print!(rt; "  pcr {base}\n"),
         Fixed::Program {
-            number: n,
+            number,
             reserved,
             pid,
-        } => {
-            text(rt, "  program")?;
-            number(rt, n as u64)?;
-            number(rt, reserved as u64)?;
-            number(rt, pid as u64)?;
-        }
+        } => print!(rt; "  program {number} {reserved} {pid}\n"),
     }
-    text(rt, "\n")
 }
 
 // The number of a refusal, behind what was refused, and the end of the line.
 pub fn refused_of(rt: &impl Print, what: &str, e: Refusal) -> io::Result<()> {
-    text(rt, what)?;
-    number(rt, u64::from(u8::from(e)))?;
-    text(rt, "\n")
+    print!(rt; "{what} {}\n", u8::from(e))
 }
 
 // The descriptor at a cursor, in a line; the cursor behind it, none at the end and on a refusal.
@@ -112,8 +80,7 @@ fn descriptor_of(rt: &impl Print, s: &[u8], at: Cursor) -> io::Result<Option<Cur
             match step.descriptor {
                 Descriptor::Known(d) => fixed_of(rt, d)?,
                 Descriptor::Other { tag, body } => {
-                    text(rt, "  tag")?;
-                    number(rt, tag as u64)?;
+                    print!(rt; "  tag {tag}")?;
                     part_of(rt, " at", body)?;
                     text(rt, "\n")?;
                 }
@@ -132,14 +99,10 @@ fn descriptor_of(rt: &impl Print, s: &[u8], at: Cursor) -> io::Result<Option<Cur
 fn descriptors_of(rt: &impl Print, s: &[u8], c: Cursor) -> io::Result<()> {
     let mut at = c;
     for _ in 0..40usize {
-        match descriptor_of(rt, s, at)? {
-            Some(next) => {
-                at = next;
-            }
-            None => {
-                return Ok(());
-            }
-        }
+        let Some(next) = descriptor_of(rt, s, at)? else {
+            return Ok(());
+        };
+        at = next;
     }
     Ok(())
 }
@@ -163,8 +126,7 @@ fn again(rt: &impl Print, s: &[u8], found: Section) -> io::Result<()> {
 
 // What reading gives, its descriptors, and what writing that again gives.
 pub fn show(rt: &impl Print, name: &str, s: &[u8]) -> io::Result<()> {
-    text(rt, name)?;
-    number(rt, s.len() as u64)?;
+    print!(rt; "{name} {}", s.len())?;
     match testdata::read(s) {
         Ok(found) => {
             fields_of(rt, found.fields)?;
