@@ -31,7 +31,7 @@ fn values_of(d: Fixed) -> [u32; 5]
     ensures { result ≡ padded 5 (fixed_values d) }
 {
     match d {
-        Fixed::ElementaryId { id_type, pid } => [id_type as u32, pid as u32, 0, 0, 0],
+        Fixed::ElementaryId { id_type, pid } => [u32::from(id_type), u32::from(pid), 0, 0, 0],
         Fixed::Gps {
             north_south,
             latitude,
@@ -39,18 +39,18 @@ fn values_of(d: Fixed) -> [u32; 5]
             longitude,
             elevation,
         } => [
-            north_south as u32,
+            u32::from(north_south),
             latitude,
-            east_west as u32,
+            u32::from(east_west),
             longitude,
-            elevation as u32,
+            u32::from(elevation),
         ],
         Fixed::ReducedPcr { base } => [base, 0, 0, 0, 0],
         Fixed::Program {
             number,
             reserved,
             pid,
-        } => [number as u32, reserved as u32, pid as u32, 0, 0],
+        } => [u32::from(number), u32::from(reserved), u32::from(pid), 0, 0],
     }
 }
 
