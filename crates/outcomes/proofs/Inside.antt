@@ -76,6 +76,7 @@ use Rattle.arrays.proofs.lay_words.Reads as lay-words
 use Rattle.quiet.proofs.quiet_packet.Reads as quiet-packet
 use Rattle.quiet.proofs.quiet_value.Reads as quiet-value
 use Rattle.testdata.proofs.row_of.Reads as row_of
+use Rattle.testdata.proofs.U8FromRefusal.from.Reads as refusal_number
 use Rattle.textlog.proofs.next_line.Reads as next-line
 use Rattle.lines.proofs.line_start.Reads as line-start
 use Rattle.lines.proofs.line_length.Reads as line-length
@@ -177,6 +178,7 @@ pub record NoSecondOutcomeInside : Type 0 where
   pub quiet_quiet_packet : (κs : _) → OneAnswer (quiet-packet.Post κs) (λ r. r)
   pub quiet_quiet_value : (κs : _) → OneAnswer (quiet-value.Post κs) (λ r. r)
   pub testdata_row_of : (κs : _) → OneAnswer (row_of.Post κs) (λ r. r)
+  pub testdata_refusal_number : (κs : _) → OneAnswer (refusal_number.Post κs) (λ r. r)
   pub textlog_next_line : (κs : _) → OneAnswer (next-line.Post κs) (λ r. r)
   pub lines_line_start : (κs : _) → OneAnswer (line-start.Post κs) (λ r. r)
   pub lines_line_length : (κs : _) → OneAnswer (line-length.Post κs) (λ r. r)
@@ -282,6 +284,7 @@ no_second_outcome_inside =
       quiet_quiet_packet = λ κs a r r' s s' p q. both p q;
       quiet_quiet_value = λ κs a r r' s s' p q. both p q;
       testdata_row_of = λ κs a r r' s s' p q. both p q;
+      testdata_refusal_number = λ κs a r r' s s' p q. both p q;
       textlog_next_line = λ κs a r r' s s' p q. both p q;
       lines_line_start = λ κs a r r' s s' p q. both p q;
       lines_line_length = λ κs a r r' s s' p q. both p q;

@@ -34,7 +34,7 @@ abbrev bytes_for : Fields → List ℕ
 bytes_for f = field_bytes (indicator_of f) (field_values f)
 
 abbrev read : Told SectionValues
-read = telling (section_values (Plain head) (record { at = 10; len = 4 }) (record { at = 14; len = 3 }))
+read = telling (section_values (record { fields = Plain head; descriptors = record { at = 10; len = 4 }; «data» = record { at = 14; len = 3 } }))
 
 abbrev reply : ℕ → ℕ → WriteReply
 reply refusal length = record { refusal = refusal; length = length }

@@ -3,10 +3,10 @@ ghost use Rattle.std.specs.Prelude.{◌≡◌, length};
 ghost use Rattle.testdata.specs.Descriptors.{descriptor_told, tag_of, fixed_values};
 ghost use Rattle.testdata.specs.Writer.{fixed_told, fixed_memory, other_told, other_memory};
 ghost use Rattle.songpigeon.specs.Fields.{padded, write_reply};
-ghost use Rattle.songpigeon.specs.Descriptors.{cursor_at, found_of, values_after};
+ghost use Rattle.songpigeon.specs.Descriptors.{cursor_at, no_more_found, found_of, values_after};
 
-use crate::{Found, WriteReply, fields};
-use testdata::{Cursor, Fixed, Step};
+use crate::{Found, WriteReply};
+use testdata::{Cursor, Descriptor, ELEMENTARY_TAG, Fixed, GPS_TAG, PROGRAM_TAG, REDUCED_PCR_TAG};
 
 const NO_MORE: u8 = 0;
 
@@ -19,20 +19,10 @@ fn tag_of(d: Fixed) -> u8
     ensures { result ≡ tag_of d }
 {
     match d {
-        Fixed::ElementaryId { id_type: _, pid: _ } => 0x40,
-        Fixed::Gps {
-            north_south: _,
-            latitude: _,
-            east_west: _,
-            longitude: _,
-            elevation: _,
-        } => 0x45,
-        Fixed::ReducedPcr { base: _ } => 0x46,
-        Fixed::Program {
-            number: _,
-            reserved: _,
-            pid: _,
-        } => 0x47,
+        Fixed::ElementaryId { .. } => ELEMENTARY_TAG,
+        Fixed::Gps { .. } => GPS_TAG,
+        Fixed::ReducedPcr { .. } => REDUCED_PCR_TAG,
+        Fixed::Program { .. } => PROGRAM_TAG,
     }
 }
 
@@ -41,7 +31,7 @@ fn values_of(d: Fixed) -> [u32; 5]
     ensures { result ≡ padded 5 (fixed_values d) }
 {
     match d {
-        Fixed::ElementaryId { id_type, pid } => [id_type as u32, pid as u32, 0, 0, 0],
+        Fixed::ElementaryId { id_type, pid } => [u32::from(id_type), u32::from(pid), 0, 0, 0],
         Fixed::Gps {
             north_south,
             latitude,
@@ -49,18 +39,32 @@ fn values_of(d: Fixed) -> [u32; 5]
             longitude,
             elevation,
         } => [
-            north_south as u32,
+            u32::from(north_south),
             latitude,
-            east_west as u32,
+            u32::from(east_west),
             longitude,
-            elevation as u32,
+            u32::from(elevation),
         ],
         Fixed::ReducedPcr { base } => [base, 0, 0, 0, 0],
         Fixed::Program {
             number,
             reserved,
             pid,
-        } => [number as u32, reserved as u32, pid as u32, 0, 0],
+        } => [u32::from(number), u32::from(reserved), u32::from(pid), 0, 0],
+    }
+}
+
+// What a host is told where no descriptor stands: a refusal, or 0, and the place itself.
+fn no_more(refusal: u8, at: usize) -> Found
+    ensures { result ≡ no_more_found refusal at }
+{
+    Found {
+        refusal,
+        kind: NO_MORE,
+        tag: 0,
+        at: 0,
+        length: 0,
+        next: at,
     }
 }
 
@@ -75,43 +79,30 @@ pub fn songpigeon_testdata_descriptor(
     ensures { (result ≡ found_of at (descriptor_told bytes.now (cursor_at at end)))
         × (values.new ≡ values_after (descriptor_told bytes.now (cursor_at at end)) values.old) }
 {
-    let step = testdata::descriptor_at(bytes, Cursor { at, end });
-    match step {
-        Step::Known(d, next) => {
-            *values = values_of(d);
-            Found {
-                refusal: 0,
-                kind: OF_FIXED,
-                tag: tag_of(d),
-                at: 0,
-                length: 0,
-                next: next.at,
+    match testdata::descriptor_at(bytes, Cursor { at, end }) {
+        Ok(Some(step)) => match step.descriptor {
+            Descriptor::Known(d) => {
+                *values = values_of(d);
+                Found {
+                    refusal: 0,
+                    kind: OF_FIXED,
+                    tag: tag_of(d),
+                    at: 0,
+                    length: 0,
+                    next: step.next.at,
+                }
             }
-        }
-        Step::Other { tag, body, next } => Found {
-            refusal: 0,
-            kind: OF_OTHER,
-            tag,
-            at: body.at,
-            length: body.len,
-            next: next.at,
+            Descriptor::Other { tag, body } => Found {
+                refusal: 0,
+                kind: OF_OTHER,
+                tag,
+                at: body.at,
+                length: body.len,
+                next: step.next.at,
+            },
         },
-        Step::End => Found {
-            refusal: 0,
-            kind: NO_MORE,
-            tag: 0,
-            at: 0,
-            length: 0,
-            next: at,
-        },
-        Step::Refused(refusal) => Found {
-            refusal,
-            kind: NO_MORE,
-            tag: 0,
-            at: 0,
-            length: 0,
-            next: at,
-        },
+        Ok(None) => no_more(0, at),
+        Err(e) => no_more(u8::from(e), at),
     }
 }
 
@@ -120,8 +111,7 @@ pub fn songpigeon_testdata_elementary_id(id_type: u8, pid: u16, place: &mut [u8]
     ensures { (result ≡ write_reply (fixed_told (Fixed.ElementaryId id_type pid) (length place.old)))
         × (place.new ≡ fixed_memory (Fixed.ElementaryId id_type pid) place.old) }
 {
-    let written = testdata::write_fixed(Fixed::ElementaryId { id_type, pid }, place);
-    fields::write_reply(written)
+    WriteReply::from(testdata::write_fixed(Fixed::ElementaryId { id_type, pid }, place))
 }
 
 // Writes a GPS_descriptor (Table 14), likewise.
@@ -136,7 +126,7 @@ pub fn songpigeon_testdata_gps(
     ensures { (result ≡ write_reply (fixed_told (Fixed.Gps north_south latitude east_west longitude elevation) (length place.old)))
         × (place.new ≡ fixed_memory (Fixed.Gps north_south latitude east_west longitude elevation) place.old) }
 {
-    let written = testdata::write_fixed(
+    WriteReply::from(testdata::write_fixed(
         Fixed::Gps {
             north_south,
             latitude,
@@ -145,8 +135,7 @@ pub fn songpigeon_testdata_gps(
             elevation,
         },
         place,
-    );
-    fields::write_reply(written)
+    ))
 }
 
 // Writes a reduced_PCR_descriptor (Table 15), likewise.
@@ -154,8 +143,7 @@ pub fn songpigeon_testdata_reduced_pcr(base: u32, place: &mut [u8]) -> WriteRepl
     ensures { (result ≡ write_reply (fixed_told (Fixed.ReducedPcr base) (length place.old)))
         × (place.new ≡ fixed_memory (Fixed.ReducedPcr base) place.old) }
 {
-    let written = testdata::write_fixed(Fixed::ReducedPcr { base }, place);
-    fields::write_reply(written)
+    WriteReply::from(testdata::write_fixed(Fixed::ReducedPcr { base }, place))
 }
 
 // Writes a program_descriptor (Table 16), likewise.
@@ -168,15 +156,14 @@ pub fn songpigeon_testdata_program(
     ensures { (result ≡ write_reply (fixed_told (Fixed.Program number reserved pid) (length place.old)))
         × (place.new ≡ fixed_memory (Fixed.Program number reserved pid) place.old) }
 {
-    let written = testdata::write_fixed(
+    WriteReply::from(testdata::write_fixed(
         Fixed::Program {
             number,
             reserved,
             pid,
         },
         place,
-    );
-    fields::write_reply(written)
+    ))
 }
 
 // Writes a descriptor of any tag with its body as it is: its length. Refusals 14, 13, 15 in this order, and then
@@ -185,6 +172,5 @@ pub fn songpigeon_testdata_other(tag: u8, body: &[u8], place: &mut [u8]) -> Writ
     ensures { (result ≡ write_reply (other_told tag body.now (length place.old)))
         × (place.new ≡ other_memory tag body.now place.old) }
 {
-    let written = testdata::write_other(tag, body, place);
-    fields::write_reply(written)
+    WriteReply::from(testdata::write_other(tag, body, place))
 }

@@ -8,11 +8,7 @@ ghost use Rattle.songpigeon.specs.Fields.{field_bytes, fields_in, place_numbers,
 
 use crate::WriteReply;
 use severity::Verdict;
-use testdata::{Fields, Head, Part, Reading, Syntax, Written};
-
-const TOO_WIDE: u8 = 13;
-
-const BAD_SIZE: u8 = 14;
+use testdata::{Fields, Head, Part, Refusal, Syntax};
 
 // Severity classes of a gap, by A/78.
 pub fn songpigeon_severity(kind: usize, gap: u64) -> Verdict
@@ -22,28 +18,43 @@ pub fn songpigeon_severity(kind: usize, gap: u64) -> Verdict
 }
 
 // The fields that twelve bytes say.
+#[tactic(auto, unfolding(crate::specs::Fields::fields_in))]
 fn fields_in(b: &[u8; 12]) -> Fields
     ensures { result ≡ fields_in b.now }
 {
+    let [
+        indicator,
+        table_id,
+        priority,
+        head_reserved,
+        user_defined,
+        extension,
+        reserved,
+        version,
+        current_next,
+        number,
+        last,
+        reserved_loop,
+    ] = *b;
     let head = Head {
-        table_id: b[1],
-        priority: b[2],
-        reserved: b[3],
+        table_id,
+        priority,
+        reserved: head_reserved,
     };
-    if b[0] == 0 {
+    if indicator == 0 {
         return Fields::Plain(head);
     }
     Fields::Generic(
         head,
         Syntax {
-            user_defined: b[4],
-            extension: b[5],
-            reserved: b[6],
-            version: b[7],
-            current_next: b[8],
-            number: b[9],
-            last: b[10],
-            reserved_loop: b[11],
+            user_defined,
+            extension,
+            reserved,
+            version,
+            current_next,
+            number,
+            last,
+            reserved_loop,
         },
     )
 }
@@ -87,37 +98,35 @@ pub fn songpigeon_testdata_read(section: &[u8], fields: &mut [u8; 12], places: &
         × (fields.new ≡ fields_after (read_told section.now) fields.old)
         × (places.new ≡ places_after (read_told section.now) places.old) }
 {
-    let found = testdata::read(section);
-    match found {
-        Reading::Section {
-            fields: f,
-            descriptors,
-            data,
-        } => {
-            *fields = field_bytes(f);
-            *places = place_numbers(descriptors, data);
+    match testdata::read(section) {
+        Ok(found) => {
+            *fields = field_bytes(found.fields);
+            *places = place_numbers(found.descriptors, found.data);
             0
         }
-        Reading::Refused(refusal) => refusal,
+        Err(e) => u8::from(e),
     }
 }
 
 // How a host is told of a writing.
-pub fn write_reply(written: Written) -> WriteReply
-    ensures { result ≡ write_reply (written_says written) }
-{
-    match written {
-        Written::Length(n) => WriteReply {
-            refusal: 0,
-            length: n,
-        },
-        Written::Refused(refusal) => WriteReply { refusal, length: 0 },
+impl From<Result<usize, Refusal>> for WriteReply {
+    ghost from_gives = { λ written reply. reply ≡ write_reply (written_says written) };
+
+    fn from(written: Result<usize, Refusal>) -> WriteReply {
+        match written {
+            Ok(length) => WriteReply { refusal: 0, length },
+            Err(e) => WriteReply {
+                refusal: u8::from(e),
+                length: 0,
+            },
+        }
     }
 }
 
 // Writes a test data section of the fields, a byte each, the bytes of its descriptors and its data: its
 // length, or the number of the refusal, 14, 13, 15 in this order, and then nothing is written. An indicator
 // above 1 is a number too wide for its field: 13.
+#[tactic(auto, unfolding(crate::specs::Fields::bytes_told, crate::specs::Fields::bytes_memory))]
 pub fn songpigeon_testdata_write(
     fields: &[u8; 12],
     descriptors: &[u8],
@@ -127,20 +136,15 @@ pub fn songpigeon_testdata_write(
     ensures { (result ≡ write_reply (bytes_told fields.now descriptors.now «data».now (length place.old)))
         × (place.new ≡ bytes_memory fields.now descriptors.now «data».now place.old) }
 {
-    if 1 < fields[0] {
+    let written = if 1 < fields[0] {
         let row = testdata::row_of(descriptors);
-        if !row.sizes {
-            return WriteReply {
-                refusal: BAD_SIZE,
-                length: 0,
-            };
-        }
-        return WriteReply {
-            refusal: TOO_WIDE,
-            length: 0,
-        };
-    }
-    let f = fields_in(fields);
-    let written = testdata::write(f, descriptors, data, place);
-    write_reply(written)
+        Err(if row.sizes {
+            Refusal::RunsPast
+        } else {
+            Refusal::BadSize
+        })
+    } else {
+        testdata::write(fields_in(fields), descriptors, data, place)
+    };
+    WriteReply::from(written)
 }

@@ -14,10 +14,12 @@ use Rattle.testdata.specs.declared.Syntax.{Syntax}
 use Rattle.testdata.specs.declared.Fields.{Fields}
 use Rattle.testdata.specs.declared.Fields.TheVariants.{Plain, Generic}
 use Rattle.testdata.specs.declared.Fixed.TheVariants.{ElementaryId, Gps, ReducedPcr, Program}
-use Rattle.testdata.specs.declared.Reading.TheVariants as reading
-use Rattle.testdata.specs.declared.Written.TheVariants as written
-use Rattle.testdata.specs.declared.Step.TheVariants as step
-use Rattle.testdata.specs.Told.{refusing, telling}
+use Rattle.std.specs.Prelude.{Ok, Err, Some, None}
+use Rattle.testdata.specs.declared.Refusal.TheVariants.{BadLength, BadCrc, RunsPast, BadSize, TooShort}
+use Rattle.testdata.specs.declared.Descriptor.TheVariants.{Known, Other}
+use Rattle.testdata.specs.declared.Descriptor.{Descriptor}
+use Rattle.testdata.specs.declared.Step.{Step}
+use Rattle.testdata.specs.Told.{number_of, refusing, telling}
 use Rattle.testdata.specs.Descriptors.{right_size, row, is_whole, sizes_right, fits_fixed, elementary_of, gps_of, reduced_pcr_of, program_of, of_fixed_size, of_other_tag, at_end, step_says, standing_of, descriptor_told}
 use Rattle.testdata.specs.Section.{head_byte, length_bytes, syntax_bytes, size_of, unsealed, section_of, fits_head, fits_syntax}
 use Rattle.testdata.specs.Reader.{fields_of, loop_of, data_of, length_wrong, read_refusal, reading_says, read_told, handed_out}
@@ -339,23 +341,28 @@ writes =
     }
 
 -- EACH CASE of the answers, as number and values
+abbrev stands : Descriptor → Cursor → Step
+stands d next = record { descriptor = d; next = next }
+
 pub record Cases : Type 0 where
-  pub length_written : written_says (written.Length 5) ≡ record { number = 0; values = 5 ∷ [] }
-  pub write_refused : written_says (written.Refused 15) ≡ record { number = 15; values = [] }
-  pub section_read : reading_says (reading.Section (Plain head) (place 3 0) (place 3 4))
+  pub refusals : map number_of (BadLength ∷ BadCrc ∷ RunsPast ∷ BadSize ∷ TooShort ∷ []) ≡ 11 ∷ 12 ∷ 13 ∷ 14 ∷ 15 ∷ []
+  pub length_written : written_says (Ok 5) ≡ record { number = 0; values = 5 ∷ [] }
+  pub write_refused : written_says (Err TooShort) ≡ record { number = 15; values = [] }
+  pub section_read : reading_says (Ok (record { fields = Plain head; descriptors = place 3 0; «data» = place 3 4 }))
       ≡ record { number = 0; values = record { indicator = 0; fields = 0x2A ∷ 1 ∷ 5 ∷ []; descriptors = place 3 0; test = place 3 4 } ∷ [] }
-  pub read_refused : reading_says (reading.Refused 12) ≡ record { number = 12; values = [] }
-  pub elementary : step_says (step.Known (ElementaryId 1 2) (cursor 4 9)) ≡ record { number = 0; values = of_fixed_size 0x40 (1 ∷ 2 ∷ []) (cursor 4 9) ∷ [] }
-  pub gps : step_says (step.Known (Gps 1 2 3 4 5) (cursor 4 9)) ≡ record { number = 0; values = of_fixed_size 0x45 (1 ∷ 2 ∷ 3 ∷ 4 ∷ 5 ∷ []) (cursor 4 9) ∷ [] }
-  pub reduced_pcr : step_says (step.Known (ReducedPcr 1) (cursor 4 9)) ≡ record { number = 0; values = of_fixed_size 0x46 (1 ∷ []) (cursor 4 9) ∷ [] }
-  pub program : step_says (step.Known (Program 1 2 3) (cursor 4 9)) ≡ record { number = 0; values = of_fixed_size 0x47 (1 ∷ 2 ∷ 3 ∷ []) (cursor 4 9) ∷ [] }
-  pub other : step_says (step.Other 0x41 (place 2 1) (cursor 3 9)) ≡ record { number = 0; values = of_other_tag 0x41 (place 2 1) (cursor 3 9) ∷ [] }
-  pub end : step_says step.End ≡ record { number = 0; values = at_end ∷ [] }
-  pub step_refused : step_says (step.Refused 13) ≡ record { number = 13; values = [] }
+  pub read_refused : reading_says (Err BadCrc) ≡ record { number = 12; values = [] }
+  pub elementary : step_says (Ok (Some (stands (Known (ElementaryId 1 2)) (cursor 4 9)))) ≡ record { number = 0; values = of_fixed_size 0x40 (1 ∷ 2 ∷ []) (cursor 4 9) ∷ [] }
+  pub gps : step_says (Ok (Some (stands (Known (Gps 1 2 3 4 5)) (cursor 4 9)))) ≡ record { number = 0; values = of_fixed_size 0x45 (1 ∷ 2 ∷ 3 ∷ 4 ∷ 5 ∷ []) (cursor 4 9) ∷ [] }
+  pub reduced_pcr : step_says (Ok (Some (stands (Known (ReducedPcr 1)) (cursor 4 9)))) ≡ record { number = 0; values = of_fixed_size 0x46 (1 ∷ []) (cursor 4 9) ∷ [] }
+  pub program : step_says (Ok (Some (stands (Known (Program 1 2 3)) (cursor 4 9)))) ≡ record { number = 0; values = of_fixed_size 0x47 (1 ∷ 2 ∷ 3 ∷ []) (cursor 4 9) ∷ [] }
+  pub other : step_says (Ok (Some (stands (Other 0x41 (place 2 1)) (cursor 3 9)))) ≡ record { number = 0; values = of_other_tag 0x41 (place 2 1) (cursor 3 9) ∷ [] }
+  pub end : step_says (Ok None) ≡ record { number = 0; values = at_end ∷ [] }
+  pub step_refused : step_says (Err RunsPast) ≡ record { number = 13; values = [] }
 
 pub cases : Cases
 cases =
     record {
+      refusals = refl;
       length_written = refl;
       write_refused = refl;
       section_read = refl;

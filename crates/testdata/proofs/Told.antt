@@ -1,42 +1,82 @@
 -- What an answer tells fixes it: two answers that are told alike are the same. Assumes nothing.
 use mathlib.Core.Path.{◌≡◌, refl, sym, ap, ◌∙◌}
-use mathlib.Core.Bool.{cond}
+use mathlib.Core.Bool.{Bool, true, false, cond}
 use mathlib.Core.List.{List, [], ◌∷◌}
 use Prim.Native.Nat.{ℕ, zero, suc}
+use native.Mathlib.Omega.{arith}
 use lib.Dec.{eqb}
 use lib.ListN.{get_or}
+use borrow.Author.Tests.{eqb-true, eqb-false}
+use Rattle.std.specs.Prelude.{Result, Ok, Err, Option, Some, None}
+use Rattle.testdata.specs.declared.Refusal.{Refusal}
+use Rattle.testdata.specs.declared.Refusal.TheVariants.{BadLength, BadCrc, RunsPast, BadSize, TooShort}
 use Rattle.testdata.specs.declared.Fixed.{Fixed}
 use Rattle.testdata.specs.declared.Fixed.TheVariants.{ElementaryId, Gps, ReducedPcr, Program}
+use Rattle.testdata.specs.declared.Descriptor.TheVariants.{Known, Other}
+use Rattle.testdata.specs.declared.Descriptor.{Descriptor}
+use Rattle.testdata.specs.declared.Cursor.{Cursor}
 use Rattle.testdata.specs.declared.Step.{Step}
-use Rattle.testdata.specs.declared.Step.TheVariants as step
 use Rattle.testdata.specs.declared.Fields.{Fields}
 use Rattle.testdata.specs.declared.Fields.TheVariants.{Plain, Generic}
-use Rattle.testdata.specs.declared.Reading.{Reading}
-use Rattle.testdata.specs.declared.Reading.TheVariants as reading
-use Rattle.testdata.specs.declared.Written.{Written}
-use Rattle.testdata.specs.declared.Written.TheVariants as written
-use Rattle.testdata.specs.Numbers.{elementary_tag, gps_tag, reduced_pcr_tag}
-use Rattle.testdata.specs.Descriptors.{tag_of, fixed_values, Standing, of_fixed_size, of_other_tag, at_end, step_says}
+use Rattle.testdata.specs.declared.Section.{Section}
+use Rattle.testdata.specs.Told.{number_of, Told, refusing, telling, told_as, told_by, after_told}
+use Rattle.testdata.specs.Numbers.{bad_length, bad_crc, runs_past, bad_size, elementary_tag, gps_tag, reduced_pcr_tag}
+use Rattle.testdata.specs.Descriptors.{tag_of, fixed_values, Standing, of_fixed_size, of_other_tag, at_end, descriptor_standing, step_standing, step_says}
 use Rattle.testdata.specs.Section.{indicator_of, field_values}
-use Rattle.testdata.specs.Reader.{SectionValues, reading_says}
+use Rattle.testdata.specs.Reader.{SectionValues, section_values, reading_says}
 use Rattle.testdata.specs.Writer.{written_says}
 
--- each answer again, from what it tells
-module _ {A B : Type 0} (says : A → B) (again : B → A) (back : (a : A) → again (says a) ≡ a) where
-  alike : (a b : A) → says a ≡ says b → a ≡ b
-  alike a b e = sym (back a) ∙ ap again e ∙ back b
+-- A REFUSAL, by its number, which is never 0
+abbrev refusal_from : ℕ → Refusal
+refusal_from n = cond (eqb n bad_length) BadLength (cond (eqb n bad_crc) BadCrc (cond (eqb n runs_past) RunsPast (cond (eqb n bad_size) BadSize TooShort)))
+
+refusal_back : (e : Refusal) → refusal_from (number_of e) ≡ e
+refusal_back BadLength = refl
+refusal_back BadCrc = refl
+refusal_back RunsPast = refl
+refusal_back BadSize = refl
+refusal_back TooShort = refl
+
+pub number_not_zero : (e : Refusal) → number_of e ≡ 0 → ⊥
+number_not_zero BadLength h = omega arith
+number_not_zero BadCrc h = omega arith
+number_not_zero RunsPast h = omega arith
+number_not_zero BadSize h = omega arith
+number_not_zero TooShort h = omega arith
+
+-- each answer again, from what it tells, where its value comes back from what is made of it
+module _ {A B : Type 0} (f : A → B) (again : B → A) (back : (v : A) → again (f v) ≡ v) where
+  answer_from : ℕ → List B → Result A Refusal
+  answer_from n [] = Err (refusal_from n)
+  answer_from n (v ∷ vs) = Ok (again v)
+
+  answer_back : (r : Result A Refusal) → answer_from (told_as f r).number (told_as f r).values ≡ r
+  unfolding answer_from
+  answer_back (Ok v) = ap Ok (back v)
+  answer_back (Err e) = ap Err (refusal_back e)
+
+  told_alike : (a b : Result A Refusal) → told_as f a ≡ told_as f b → a ≡ b
+  told_alike a b e = sym (answer_back a) ∙ ap (λ (t : Told B). answer_from t.number t.values) e ∙ answer_back b
+
+-- an answer that is told by a number: its value, where the number is 0, or the refusal of that number
+module _ {A B : Type 0} (f : A → B) (n : ℕ) (w : B) where
+  pub told_ok : (v : A) → told_as f (Ok v) ≡ told_by n w → (n ≡ 0) × (f v ≡ w)
+  told_ok v h = go (eqb n 0) refl h
+    where
+      go : (t : Bool) → eqb n 0 ≡ t → telling (f v) ≡ cond t (telling w) (refusing n) → (n ≡ 0) × (f v ≡ w)
+      go true t e = (eqb-true n 0 t, ap (λ (x : Told B). after_told x (λ y. y) w) e)
+      go false t e = absurd (eqb-false n 0 t (sym (ap (λ (x : Told B). x.number) e)))
+
+  pub told_err : (e : Refusal) → told_as f (Err e) ≡ told_by n w → number_of e ≡ n
+  told_err e h = go (eqb n 0) h
+    where
+      go : (t : Bool) → refusing (number_of e) ≡ cond t (telling w) (refusing n) → number_of e ≡ n
+      go true h = absurd (number_not_zero e (ap (λ (x : Told B). x.number) h))
+      go false h = ap (λ (x : Told B). x.number) h
 
 -- A WRITE
-abbrev written_from : ℕ → List ℕ → Written
-written_from n [] = written.Refused n
-written_from n (l ∷ ls) = written.Length l
-
-written_back : (w : Written) → written_from (written_says w).number (written_says w).values ≡ w
-written_back (written.Length n) = refl
-written_back (written.Refused n) = refl
-
-pub written_alike : (a b : Written) → written_says a ≡ written_says b → a ≡ b
-written_alike a b e = alike written_says (λ t. written_from t.number t.values) written_back a b e
+pub written_alike : (a b : Result ℕ Refusal) → written_says a ≡ written_says b → a ≡ b
+written_alike a b e = told_alike (λ n. n) (λ n. n) (λ n. refl) a b e
 
 -- A READING
 abbrev fields_from : ℕ → List ℕ → Fields
@@ -58,16 +98,17 @@ fields_back : (f : Fields) → fields_from (indicator_of f) (field_values f) ≡
 fields_back (Plain h) = refl
 fields_back (Generic h x) = refl
 
-abbrev reading_from : ℕ → List SectionValues → Reading
-reading_from n [] = reading.Refused n
-reading_from n (v ∷ vs) = reading.Section (fields_from v.indicator v.fields) v.descriptors v.test
+abbrev section_from : SectionValues → Section
+section_from v = record { fields = fields_from v.indicator v.fields; descriptors = v.descriptors; «data» = v.test }
 
-reading_back : (r : Reading) → reading_from (reading_says r).number (reading_says r).values ≡ r
-reading_back (reading.Section f l d) = ap (λ (x : Fields). reading.Section x l d) (fields_back f)
-reading_back (reading.Refused n) = refl
+section_back : (s : Section) → section_from (section_values s) ≡ s
+section_back s = ap (λ (f : Fields). record { fields = f; descriptors = s.descriptors; «data» = s.data }) (fields_back s.fields)
 
-pub reading_alike : (a b : Reading) → reading_says a ≡ reading_says b → a ≡ b
-reading_alike a b e = alike reading_says (λ t. reading_from t.number t.values) reading_back a b e
+pub section_alike : (a b : Section) → section_values a ≡ section_values b → a ≡ b
+section_alike a b e = sym (section_back a) ∙ ap section_from e ∙ section_back b
+
+pub reading_alike : (a b : Result Section Refusal) → reading_says a ≡ reading_says b → a ≡ b
+reading_alike a b e = told_alike section_values section_from section_back a b e
 
 -- A STEP
 abbrev fixed_from : ℕ → List ℕ → Fixed
@@ -83,17 +124,18 @@ fixed_back (Gps south latitude west longitude elevation) = refl
 fixed_back (ReducedPcr base) = refl
 fixed_back (Program number reserved pid) = refl
 
-abbrev step_from : ℕ → List Standing → Step
-step_from n [] = step.Refused n
-step_from n (of_fixed_size tag values next ∷ vs) = step.Known (fixed_from tag values) next
-step_from n (of_other_tag tag place next ∷ vs) = step.Other tag place next
-step_from n (at_end ∷ vs) = step.End
+abbrev step_from : Standing → Option Step
+step_from (of_fixed_size tag values next) = Some (record { descriptor = Known (fixed_from tag values); next = next })
+step_from (of_other_tag tag place next) = Some (record { descriptor = Other tag place; next = next })
+step_from at_end = None
 
-step_back : (x : Step) → step_from (step_says x).number (step_says x).values ≡ x
-step_back (step.Known d next) = ap (λ (f : Fixed). step.Known f next) (fixed_back d)
-step_back (step.Other tag place next) = refl
-step_back step.End = refl
-step_back (step.Refused n) = refl
+step_back : (x : Option Step) → step_from (step_standing x) ≡ x
+step_back (Some x) = some_back x.descriptor x.next
+  where
+    some_back : (d : Descriptor) (next : Cursor) → step_from (descriptor_standing d next) ≡ Some (record { descriptor = d; next = next })
+    some_back (Known d) next = ap (λ (f : Fixed). Some (record { descriptor = Known f; next = next })) (fixed_back d)
+    some_back (Other tag place) next = refl
+step_back None = refl
 
-pub step_alike : (a b : Step) → step_says a ≡ step_says b → a ≡ b
-step_alike a b e = alike step_says (λ t. step_from t.number t.values) step_back a b e
+pub step_alike : (a b : Result (Option Step) Refusal) → step_says a ≡ step_says b → a ≡ b
+step_alike a b e = told_alike step_standing step_from step_back a b e

@@ -1,15 +1,10 @@
 // What reading and writing give, in lines.
 use std::io;
 use std::io::Print;
-use testdata::{Cursor, Fields, Fixed, Head, Part, Reading, Step, Syntax, Written};
+use testdata::{Cursor, Descriptor, Fields, Fixed, Head, Part, Refusal, Section, Syntax};
 
 pub fn text(rt: &impl Print, s: &str) -> io::Result<()> {
     print!(rt; "{s}")
-}
-
-// A space and a number.
-pub fn number(rt: &impl Print, n: u64) -> io::Result<()> {
-    print!(rt; " {n}")
 }
 
 // The bytes, two digits each.
@@ -22,108 +17,80 @@ pub fn hex(rt: &impl Print, s: &[u8]) -> io::Result<()> {
 }
 
 fn part_of(rt: &impl Print, name: &str, p: Part) -> io::Result<()> {
-    text(rt, name)?;
-    number(rt, p.at as u64)?;
-    number(rt, p.len as u64)
+    print!(rt; "{name} {} {}", p.at, p.len)
 }
 
 fn head_of(rt: &impl Print, h: Head) -> io::Result<()> {
-    number(rt, h.table_id as u64)?;
-    number(rt, h.priority as u64)?;
-    number(rt, h.reserved as u64)
+    print!(rt; " {} {} {}", h.table_id, h.priority, h.reserved)
 }
 
 fn syntax_of(rt: &impl Print, x: Syntax) -> io::Result<()> {
-    number(rt, x.user_defined as u64)?;
-    number(rt, x.extension as u64)?;
-    number(rt, x.reserved as u64)?;
-    number(rt, x.version as u64)?;
-    number(rt, x.current_next as u64)?;
-    number(rt, x.number as u64)?;
-    number(rt, x.last as u64)?;
-    number(rt, x.reserved_loop as u64)
+    print!(rt;
+        " {} {} {} {}",
+        x.user_defined, x.extension, x.reserved, x.version
+    )?;
+    print!(rt;
+        " {} {} {} {}",
+        x.current_next, x.number, x.last, x.reserved_loop
+    )
 }
 
 fn fields_of(rt: &impl Print, f: Fields) -> io::Result<()> {
     match f {
         Fields::Plain(h) => {
             text(rt, " plain")?;
-            head_of(rt, h)?;
+            head_of(rt, h)
         }
         Fields::Generic(h, x) => {
             text(rt, " generic")?;
             head_of(rt, h)?;
-            syntax_of(rt, x)?;
+            syntax_of(rt, x)
         }
     }
-    Ok(())
 }
 
 fn fixed_of(rt: &impl Print, d: Fixed) -> io::Result<()> {
     match d {
-        Fixed::ElementaryId { id_type, pid } => {
-            text(rt, "  elementary")?;
-            number(rt, id_type as u64)?;
-            number(rt, pid as u64)?;
-        }
+        Fixed::ElementaryId { id_type, pid } => { print!(rt; "  elementary {id_type} {pid}\n") }
         Fixed::Gps {
             north_south,
             latitude,
             east_west,
             longitude,
             elevation,
-        } => {
-            text(rt, "  gps")?;
-            number(rt, north_south as u64)?;
-            number(rt, latitude as u64)?;
-            number(rt, east_west as u64)?;
-            number(rt, longitude as u64)?;
-            number(rt, elevation as u64)?;
-        }
-        Fixed::ReducedPcr { base } => {
-            text(rt, "  pcr")?;
-            number(rt, base as u64)?;
-        }
+        } => { print!(rt; "  gps {north_south} {latitude} {east_west} {longitude} {elevation}\n") }
+        Fixed::ReducedPcr { base } => print!(rt; "  pcr {base}\n"),
         Fixed::Program {
-            number: n,
+            number,
             reserved,
             pid,
-        } => {
-            text(rt, "  program")?;
-            number(rt, n as u64)?;
-            number(rt, reserved as u64)?;
-            number(rt, pid as u64)?;
-        }
+        } => print!(rt; "  program {number} {reserved} {pid}\n"),
     }
-    text(rt, "\n")
 }
 
-#[derive(Clone, Copy)]
-enum After {
-    Next(Cursor),
-    Stop,
+// The number of a refusal, behind what was refused, and the end of the line.
+pub fn refused_of(rt: &impl Print, what: &str, e: Refusal) -> io::Result<()> {
+    print!(rt; "{what} {}\n", u8::from(e))
 }
 
-// The descriptor at a cursor, in a line.
-fn descriptor_of(rt: &impl Print, s: &[u8], at: Cursor) -> io::Result<After> {
+// The descriptor at a cursor, in a line; the cursor behind it, none at the end and on a refusal.
+fn descriptor_of(rt: &impl Print, s: &[u8], at: Cursor) -> io::Result<Option<Cursor>> {
     match testdata::descriptor_at(s, at) {
-        Step::Known(d, next) => {
-            fixed_of(rt, d)?;
-            Ok(After::Next(next))
+        Ok(Some(step)) => {
+            match step.descriptor {
+                Descriptor::Known(d) => fixed_of(rt, d)?,
+                Descriptor::Other { tag, body } => {
+                    print!(rt; "  tag {tag}")?;
+                    part_of(rt, " at", body)?;
+                    text(rt, "\n")?;
+                }
+            }
+            Ok(Some(step.next))
         }
-        Step::Other { tag, body, next } => {
-            text(rt, "  tag")?;
-            number(rt, tag as u64)?;
-            part_of(rt, " at", body)?;
-            text(rt, "\n")?;
-            Ok(After::Next(next))
-        }
-        Step::End => Ok(After::Stop),
-        Step::Refused(n) => {
-            text(rt, "  refused")?;
-            number(rt, n as u64)?;
-            text(rt, "\n")?;
-            Ok(After::Stop)
+        Ok(None) => Ok(None),
+        Err(e) => {
+            refused_of(rt, "  refused", e)?;
+            Ok(None)
         }
     }
 }
@@ -132,84 +99,46 @@ fn descriptor_of(rt: &impl Print, s: &[u8], at: Cursor) -> io::Result<After> {
 fn descriptors_of(rt: &impl Print, s: &[u8], c: Cursor) -> io::Result<()> {
     let mut at = c;
     for _ in 0..40usize {
-        match descriptor_of(rt, s, at)? {
-            After::Next(next) => {
-                at = next;
-            }
-            After::Stop => {
-                return Ok(());
-            }
-        }
+        let Some(next) = descriptor_of(rt, s, at)? else {
+            return Ok(());
+        };
+        at = next;
     }
     Ok(())
-}
-
-// Whether the first n bytes of the place are those of s.
-fn same_front(place: &[u8], n: usize, s: &[u8]) -> bool {
-    if place.len() < n {
-        return false;
-    }
-    let front = &place[..n];
-    front == s
 }
 
 // Whether writing the fields, loop and data again gives the same bytes.
-fn again(rt: &impl Print, s: &[u8], f: Fields, l: Part, d: Part) -> io::Result<()> {
+fn again(rt: &impl Print, s: &[u8], found: Section) -> io::Result<()> {
     let mut place = [0u8; 4096];
-    let loop_bytes = testdata::bytes_of(s, l);
-    let data = testdata::bytes_of(s, d);
-    match testdata::write(f, loop_bytes, data, &mut place) {
-        Written::Length(n) => {
-            if same_front(&place, n, s) {
-                text(rt, "  again\n")?;
+    let loop_bytes = testdata::bytes_of(s, found.descriptors);
+    let data = testdata::bytes_of(s, found.data);
+    match testdata::write(found.fields, loop_bytes, data, &mut place) {
+        Ok(n) => {
+            if place.get(..n) == Some(s) {
+                text(rt, "  again\n")
             } else {
-                text(rt, "  differs\n")?;
+                text(rt, "  differs\n")
             }
         }
-        Written::Refused(n) => {
-            text(rt, "  not again")?;
-            number(rt, n as u64)?;
-            text(rt, "\n")?;
-        }
+        Err(e) => refused_of(rt, "  not again", e),
     }
-    Ok(())
 }
 
 // What reading gives, its descriptors, and what writing that again gives.
 pub fn show(rt: &impl Print, name: &str, s: &[u8]) -> io::Result<()> {
-    text(rt, name)?;
-    number(rt, s.len() as u64)?;
+    print!(rt; "{name} {}", s.len())?;
     match testdata::read(s) {
-        Reading::Section {
-            fields,
-            descriptors,
-            data,
-        } => {
-            fields_of(rt, fields)?;
-            part_of(rt, " loop", descriptors)?;
-            part_of(rt, " data", data)?;
+        Ok(found) => {
+            fields_of(rt, found.fields)?;
+            part_of(rt, " loop", found.descriptors)?;
+            part_of(rt, " data", found.data)?;
             text(rt, "\n")?;
-            let at = descriptors.at;
-            let len = descriptors.len;
-            if at <= 4096 {
-                if len <= 4096 {
-                    descriptors_of(
-                        rt,
-                        s,
-                        Cursor {
-                            at: at,
-                            end: at + len,
-                        },
-                    )?;
-                }
+            let Part { at, len } = found.descriptors;
+            if (at <= 4096) & (len <= 4096) {
+                descriptors_of(rt, s, Cursor { at, end: at + len })?;
             }
-            again(rt, s, fields, descriptors, data)?;
+            again(rt, s, found)
         }
-        Reading::Refused(n) => {
-            text(rt, " refused")?;
-            number(rt, n as u64)?;
-            text(rt, "\n")?;
-        }
+        Err(e) => refused_of(rt, " refused", e),
     }
-    Ok(())
 }

@@ -1,14 +1,14 @@
 // Sections and descriptors that are written, and what the writers answer.
-use crate::show::{hex, number, show, text};
+use crate::show::{hex, refused_of, show, text};
 use std::io;
 use std::io::Print;
-use testdata::{Fields, Fixed, Head, Syntax, Written};
+use testdata::{Fields, Fixed, Head, Refusal, Syntax};
 
 pub fn head(table_id: u8, priority: u8, reserved: u8) -> Head {
     Head {
-        table_id: table_id,
-        priority: priority,
-        reserved: reserved,
+        table_id,
+        priority,
+        reserved,
     }
 }
 
@@ -17,45 +17,35 @@ pub fn syntax(reserved: u8, version: u8, current_next: u8, reserved_loop: u8) ->
     Syntax {
         user_defined: 1,
         extension: 1,
-        reserved: reserved,
-        version: version,
-        current_next: current_next,
+        reserved,
+        version,
+        current_next,
         number: 0,
         last: 0,
-        reserved_loop: reserved_loop,
+        reserved_loop,
     }
 }
 
 pub fn gps(north_south: u8, latitude: u32, east_west: u8, longitude: u32, elevation: u16) -> Fixed {
     Fixed::Gps {
-        north_south: north_south,
-        latitude: latitude,
-        east_west: east_west,
-        longitude: longitude,
-        elevation: elevation,
+        north_south,
+        latitude,
+        east_west,
+        longitude,
+        elevation,
     }
 }
 
-pub fn wrote(rt: &impl Print, w: Written) -> io::Result<()> {
+pub fn wrote(rt: &impl Print, w: Result<usize, Refusal>) -> io::Result<()> {
     match w {
-        Written::Length(n) => {
-            text(rt, " length")?;
-            number(rt, n as u64)?;
-        }
-        Written::Refused(n) => {
-            text(rt, " refused")?;
-            number(rt, n as u64)?;
-        }
+        Ok(n) => print!(rt; " length {n}"),
+        Err(e) => print!(rt; " refused {}", u8::from(e)),
     }
-    Ok(())
 }
 
 // The first n bytes of s, or all of it.
 fn front(s: &[u8], n: usize) -> &[u8] {
-    if s.len() < n {
-        return s;
-    }
-    &s[..n]
+    s.get(..n).unwrap_or(s)
 }
 
 pub fn show_front(rt: &impl Print, name: &str, s: &[u8], n: usize) -> io::Result<()> {
@@ -73,66 +63,28 @@ pub fn written(
 ) -> io::Result<()> {
     let mut place = [0u8; 4096];
     match testdata::write(f, loop_bytes, data, &mut place) {
-        Written::Length(n) => {
-            text(rt, name)?;
-            text(rt, " written")?;
-            number(rt, n as u64)?;
+        Ok(n) => {
+            print!(rt; "{name} written {n}")?;
             let s = front(&place, n);
             if bytes {
                 hex(rt, s)?;
             }
             text(rt, "\n")?;
-            show(rt, name, s)?;
+            show(rt, name, s)
         }
-        Written::Refused(n) => {
+        Err(e) => {
             text(rt, name)?;
-            text(rt, " not written")?;
-            number(rt, n as u64)?;
-            text(rt, "\n")?;
+            refused_of(rt, " not written", e)
         }
     }
-    Ok(())
 }
 
 // Whether the bytes from n on are still 0xAA.
 fn kept(s: &[u8], n: usize) -> bool {
-    for i in n..s.len() {
-        if s[i] != 0xAA {
-            return false;
-        }
-    }
-    true
+    s.iter().skip(n).all(|&b| b == 0xAA)
 }
 
-// What a writer answers for the first room bytes of the place, and whether all else is as it was.
-fn refused_in(
-    rt: &impl Print,
-    f: Fields,
-    loop_bytes: &[u8],
-    data: &[u8],
-    place: &mut [u8],
-    room: usize,
-) -> io::Result<()> {
-    if place.len() < room {
-        return Ok(());
-    }
-    let w = testdata::write(f, loop_bytes, data, &mut place[..room]);
-    wrote(rt, w)?;
-    match w {
-        Written::Length(n) => {
-            if kept(place, n) {
-                text(rt, " rest kept")?;
-            }
-        }
-        Written::Refused(_) => {
-            if kept(place, 0) {
-                text(rt, " untouched")?;
-            }
-        }
-    }
-    Ok(())
-}
-
+// What the writer of sections answers for the first room bytes of a place, and whether all else is as it was.
 pub fn refused(
     rt: &impl Print,
     name: &str,
@@ -143,44 +95,52 @@ pub fn refused(
 ) -> io::Result<()> {
     let mut place = [0xAAu8; 64];
     text(rt, name)?;
-    refused_in(rt, f, loop_bytes, data, &mut place, room)?;
+    if let Some(front) = place.get_mut(..room) {
+        let w = testdata::write(f, loop_bytes, data, front);
+        wrote(rt, w)?;
+        match w {
+            Ok(n) => {
+                if kept(&place, n) {
+                    text(rt, " rest kept")?;
+                }
+            }
+            Err(_) => {
+                if kept(&place, 0) {
+                    text(rt, " untouched")?;
+                }
+            }
+        }
+    }
     text(rt, "\n")
 }
 
-// What the writer of one descriptor answers for the first room bytes of the place, and those bytes
-// afterwards.
-fn fixed_in(rt: &impl Print, d: Fixed, place: &mut [u8], room: usize) -> io::Result<()> {
-    if place.len() < room {
-        return Ok(());
+// What a writer of one descriptor answers for the first room bytes of a place, and those bytes afterwards.
+fn answered<Write: FnOnce(&mut [u8]) -> Result<usize, Refusal>>(
+    rt: &impl Print,
+    name: &str,
+    room: usize,
+    write: Write,
+) -> io::Result<()>
+    requires { Write.IsAlwaysCallable write }
+{
+    let mut place = [0xAAu8; 64];
+    text(rt, name)?;
+    if let Some(front) = place.get_mut(..room) {
+        wrote(rt, write(front))?;
+        hex(rt, front)?;
     }
-    wrote(rt, testdata::write_fixed(d, &mut place[..room]))?;
-    hex(rt, front(place, room))
+    text(rt, "\n")
 }
 
 pub fn fixed(rt: &impl Print, name: &str, d: Fixed, room: usize) -> io::Result<()> {
-    let mut place = [0xAAu8; 64];
-    text(rt, name)?;
-    fixed_in(rt, d, &mut place, room)?;
-    text(rt, "\n")
-}
-
-fn other_in(
-    rt: &impl Print,
-    tag: u8,
-    body: &[u8],
-    place: &mut [u8],
-    room: usize,
-) -> io::Result<()> {
-    if place.len() < room {
-        return Ok(());
-    }
-    wrote(rt, testdata::write_other(tag, body, &mut place[..room]))?;
-    hex(rt, front(place, room))
+    answered(rt, name, room, |place| testdata::write_fixed(d, place))
 }
 
 pub fn other(rt: &impl Print, name: &str, tag: u8, body: &[u8], room: usize) -> io::Result<()> {
-    let mut place = [0xAAu8; 64];
-    text(rt, name)?;
-    other_in(rt, tag, body, &mut place, room)?;
-    text(rt, "\n")
+    answered(
+        rt,
+        name,
+        room,
+        |place| testdata::write_other(tag, body, place),
+    )
 }

@@ -1,12 +1,11 @@
 use mathlib.Core.Path.{◌≡◌}
 use mathlib.Core.Bool.{◌&&◌}
-use Prim.Native.Nat.{◌-◌, ◌≤◌}
-use lib.ListN.{length, drop}
+use lib.ListN.{length}
 use Rattle.testdata.specs.Descriptors.{is_whole, sizes_right}
 use Rattle.testdata.proofs.descriptors.row_of.Given as goal
 
-abbrev pub invariant-loop-i : goal.invariant-loop-i
-invariant-loop-i l = (l.i ≤ length l.s) × (is_whole l.s ≡ is_whole (drop l.i l.s)) × (sizes_right l.s ≡ (l.sizes && sizes_right (drop l.i l.s)))
+abbrev pub invariant-loop-rest : goal.invariant-loop-rest
+invariant-loop-rest l = (is_whole l.s ≡ is_whole l.rest) × (sizes_right l.s ≡ (l.sizes && sizes_right l.rest))
 
-abbrev pub decreases-loop-i : goal.decreases-loop-i
-decreases-loop-i l = length l.s - l.i
+abbrev pub decreases-loop-rest : goal.decreases-loop-rest
+decreases-loop-rest l = length l.rest
