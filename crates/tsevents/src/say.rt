@@ -1,6 +1,5 @@
-// What is said on standard error, a line each time. A piece that does not fit the line is left out.
-ghost use Rattle.std.specs.Prelude.{◌≡◌, ◌≤◌, length, take};
-
+// What is said on standard error, a line each time.
+use std::fmt;
 use std::fmt::InlineText;
 use std::io::Error;
 use textlog::MALFORMED_LINE;
@@ -9,62 +8,42 @@ const TIME_TOO_LATE: u32 = 4;
 
 const TIME_BACKWARDS: u32 = 6;
 
-// A piece laid behind the bytes up to a place; the next place.
-fn join(text: &mut [u8], at: usize, piece: &[u8]) -> usize
-    requires { at ≤ length text.old }
-    ensures { (result ≤ length text.new) × (result ≡ length (take result text.new)) }
-{
-    if text.len() - at < piece.len() {
-        return at;
-    }
-    octets::copy(text, at, piece);
-    at + piece.len()
-}
-
-// A number in decimal digits, laid in the same way.
-fn join_number(text: &mut [u8], at: usize, number: u64) -> usize
-    requires { at ≤ length text.old }
-    ensures { (result ≤ length text.new) × (result ≡ length (take result text.new)) }
-{
-    let digits = InlineText::<20>::of(number);
-    join(text, at, digits.as_str().as_bytes())
-}
-
 // What a refusal of a line means.
-fn join_reason(text: &mut [u8], at: usize, refusal: u32) -> usize
-    requires { at ≤ length text.old }
-    ensures { (result ≤ length text.new) × (result ≡ length (take result text.new)) }
-{
-    if refusal == TIME_TOO_LATE {
-        return join(text, at, b": time above 2^62");
+fn reason(refusal: u32) -> &'static str {
+    match refusal {
+        TIME_TOO_LATE => ": time above 2^62",
+        TIME_BACKWARDS => ": time below the one before",
+        MALFORMED_LINE => ": malformed line",
+        _ => "",
     }
-    if refusal == TIME_BACKWARDS {
-        return join(text, at, b": time below the one before");
-    }
-    if refusal == MALFORMED_LINE {
-        return join(text, at, b": malformed line");
-    }
-    join(text, at, b"")
 }
 
-// The system's words for an error, without its number; nothing where the system gave none.
-fn join_why(text: &mut [u8], at: usize, why: Option<Error>) -> usize
-    requires { at ≤ length text.old }
-    ensures { (result ≤ length text.new) × (result ≡ length (take result text.new)) }
-{
-    let Some(error) = why else {
-        return at;
-    };
-    if error.raw_os_error().is_none() {
-        return at;
-    }
-    let said = InlineText::<256>::of(error);
-    match said.as_str().rsplit_once(" (os error ") {
-        Some((words, _)) => {
-            let a = join(text, at, b": ");
-            join(text, a, words.as_bytes())
+// An error as the system tells it; nothing where the system gave none.
+#[derive(Clone, Copy, Drop)]
+struct Why {
+    told: InlineText<256>,
+}
+
+impl Why {
+    fn of(why: Option<Error>) -> Why {
+        match why {
+            Some(error) if error.raw_os_error().is_some() => Why {
+                told: InlineText::of(error),
+            },
+            _ => Why {
+                told: InlineText::new(),
+            },
         }
-        None => at,
+    }
+}
+
+// The system's words, without the number.
+impl fmt::Display for Why {
+    fn fmt<W: fmt::Write>(&self, f: &mut fmt::Formatter<W>) -> fmt::Result {
+        match self.told.as_str().rsplit_once(" (os error ") {
+            Some((words, _)) => write!(f, ": {words}"),
+            None => Ok(()),
+        }
     }
 }
 
@@ -78,35 +57,33 @@ pub fn usage(rt: HostRuntime) {
     say(rt, b"usage: tsevents [FILE]\n");
 }
 
-// What failed, and what with, and why.
-pub fn failed(rt: HostRuntime, what: &[u8], name: &[u8], why: Option<Error>) {
+// What failed, and what with, and why. A name need be no text, so the line is put together of bytes; a piece that
+// does not fit it is left out.
+pub fn failed(rt: HostRuntime, what: &str, name: &[u8], why: Option<Error>) {
+    let said = InlineText::<512>::of(Why::of(why));
     let mut text = [0u8; 8192];
-    let a = join(&mut text, 0, what);
-    let b = join(&mut text, a, name);
-    let c = join_why(&mut text, b, why);
-    let d = join(&mut text, c, b"\n");
-    say(rt, &text[..d]);
+    let mut at: usize = 0;
+    for piece in [what.as_bytes(), name, said.as_str().as_bytes(), b"\n"] {
+        if piece.len() <= text.len() - at {
+            octets::copy(&mut text, at, piece);
+            at += piece.len();
+        }
+    }
+    say(rt, &text[..at]);
 }
 
 // What failed behind a line of the log, and why.
-pub fn failed_behind(rt: HostRuntime, what: &[u8], line: u64, why: Option<Error>) {
-    let mut text = [0u8; 4096];
-    let a = join(&mut text, 0, what);
-    let b = join(&mut text, a, b" behind line ");
-    let c = join_number(&mut text, b, line);
-    let d = join_why(&mut text, c, why);
-    let e = join(&mut text, d, b"\n");
-    say(rt, &text[..e]);
+pub fn failed_behind(rt: HostRuntime, what: &str, line: u64, why: Option<Error>) {
+    let said = Why::of(why);
+    let text = InlineText::<512>::of(format_args!("{what} behind line {line}{said}\n"));
+    say(rt, text.as_str().as_bytes());
 }
 
 // That a line of the log is refused.
 pub fn refused(rt: HostRuntime, line: u64, refusal: u32) {
-    let mut text = [0u8; 4096];
-    let a = join(&mut text, 0, b"tsevents: line ");
-    let b = join_number(&mut text, a, line);
-    let c = join(&mut text, b, b" refused with ");
-    let d = join_number(&mut text, c, refusal as u64);
-    let e = join_reason(&mut text, d, refusal);
-    let f = join(&mut text, e, b"\n");
-    say(rt, &text[..f]);
+    let why = reason(refusal);
+    let text = InlineText::<512>::of(format_args!(
+        "tsevents: line {line} refused with {refusal}{why}\n"
+    ));
+    say(rt, text.as_str().as_bytes());
 }
