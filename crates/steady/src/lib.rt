@@ -29,16 +29,16 @@ fn again(clock: &impl Clock, why: &Error) -> bool {
     }
 }
 
-// One read: how many bytes it brought, 0 at the input's end.
+// One read: how many bytes it brought, 0 at the input's end. `write_some` is its twin: one function that takes the call as
+// a closure was tried, and what a closure changes of the lent reader and bytes no proof knows, so `bytes` was lost.
 pub fn read_some<R: Read>(clock: &impl Clock, reader: &mut R, buf: &mut [u8]) -> io::Result<usize>
     ensures bound { ReadsAtMost result buf.new }
     ensures bytes { ReadConsumes (R.remaining reader.old) (R.remaining reader.new) result buf.new }
 {
     for _ in 0..MOST_TRIES {
         match reader.read(buf) {
-            Ok(n) => return Ok(n),
             Err(why) if again(clock, &why) => {}
-            Err(why) => return Err(why),
+            done => return done,
         }
     }
     Err(Error::from(ErrorKind::WouldBlock))
@@ -51,9 +51,8 @@ fn write_some<W: Write>(clock: &impl Clock, writer: &mut W, buf: &[u8]) -> io::R
 {
     for _ in 0..MOST_TRIES {
         match writer.write(buf) {
-            Ok(n) => return Ok(n),
             Err(why) if again(clock, &why) => {}
-            Err(why) => return Err(why),
+            done => return done,
         }
     }
     Err(Error::from(ErrorKind::WouldBlock))
