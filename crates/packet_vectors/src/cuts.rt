@@ -14,17 +14,15 @@ enum Call<'a> {
 }
 
 // The log: the fourth packet has a wrong first byte, the last leaves one out.
-fn calls<'a>() -> [Call<'a>; 7] {
-    [
-        Call::Packet(1000, &tables::PAT_OF_1),
-        Call::Packet(1001, &tables::FIRST_PART),
-        Call::Clock(1002),
-        Call::Packet(1003, b"\x46\x40\x00\x11"),
-        Call::Packet(1004, &tables::LAST_PART),
-        Call::Packet(1005, b"\x47\x00\x00\x13"),
-        Call::Clock(20_000_000),
-    ]
-}
+const CALLS: [Call; 7] = [
+    Call::Packet(1000, &tables::PAT_OF_1),
+    Call::Packet(1001, &tables::FIRST_PART),
+    Call::Clock(1002),
+    Call::Packet(1003, b"\x46\x40\x00\x11"),
+    Call::Packet(1004, &tables::LAST_PART),
+    Call::Packet(1005, b"\x47\x00\x00\x13"),
+    Call::Clock(20_000_000),
+];
 
 // A call, with its line.
 fn shown(lines: &mut Lines, call: Call, log: Carried) -> Carried {
@@ -44,17 +42,16 @@ fn silent(call: Call, log: Carried) -> Carried {
 
 fn whole(lines: &mut Lines) {
     let mut log = run::from(states::fresh(0));
-    for call in calls() {
+    for call in CALLS {
         log = shown(lines, call, log);
     }
 }
 
 pub fn cut_anywhere(lines: &mut Lines) {
     whole(lines);
-    let calls = calls();
-    for (k, &call) in calls.iter().enumerate() {
+    for (k, &call) in CALLS.iter().enumerate() {
         let mut log = run::from(states::fresh(0));
-        for &before in calls.iter().take(k) {
+        for &before in &CALLS[..k] {
             log = silent(before, log);
         }
         log = run::silent_packet(log, 5, b"\x47");
