@@ -1,5 +1,5 @@
-// The product's calls with the event list taken and handed back by value, for programs: a covered function
-// can hold a list of records, but not lend it. A list has the least number of records that is accepted.
+// The product's calls with the event list taken and handed back by value, beside the answer, for programs. A list has the
+// least number of records that is accepted. Each hands on to its call of `probe`, and no more: two calls, two functions.
 
 #![tactic(auto)]
 
@@ -24,17 +24,13 @@ pub fn packet_least(
     packet: &[u8],
     counters: &mut [u8],
     memory: &mut [u8; MEMORY],
-    list: [Event; LEAST_CAPACITY],
+    mut list: [Event; LEAST_CAPACITY],
 ) -> HeldLeast
     ensures { PacketDone (packet_call state time packet.now counters.old memory.old least_capacity)
         result.answer counters.new memory.new list result.list }
 {
-    let mut kept = list;
-    let answer = probe::packet(state, time, packet, counters, memory, &mut kept);
-    HeldLeast {
-        answer: answer,
-        list: kept,
-    }
+    let answer = probe::packet(state, time, packet, counters, memory, &mut list);
+    HeldLeast { answer, list }
 }
 
 // A clock call with a list of so many records.
@@ -42,14 +38,10 @@ pub fn clock_least(
     state: State,
     time: u64,
     memory: &[u8; MEMORY],
-    list: [Event; LEAST_CAPACITY],
+    mut list: [Event; LEAST_CAPACITY],
 ) -> HeldLeast
     ensures { ClockDone (clock_call state time memory.now least_capacity) result.answer list result.list }
 {
-    let mut kept = list;
-    let answer = probe::clock(state, time, memory, &mut kept);
-    HeldLeast {
-        answer: answer,
-        list: kept,
-    }
+    let answer = probe::clock(state, time, memory, &mut list);
+    HeldLeast { answer, list }
 }

@@ -3,10 +3,12 @@ ghost use Rattle.std.specs.Prelude.{◌≡◌, replicate};
 ghost use Rattle.events.specs.Capacity.{least_capacity};
 ghost use Rattle.sections.specs.Rooms.{memory_size};
 ghost use Rattle.call_lines.specs.inner.Marks.{marked};
+ghost use Rattle.call_lines.specs.inner.Left.{PacketLeft, ClockLeft};
 ghost use Rattle.calls.specs.Calls.{packet_call, clock_call};
 
 use crate::show::Lines;
 use crate::{packets, show};
+use byvalue::HeldLeast;
 use calls::State;
 use events::{Event, LEAST_CAPACITY};
 use sections::MEMORY;
@@ -24,9 +26,9 @@ pub fn from(state: State) -> Carried
     ensures { result ≡ record { state = state; counters = replicate 8192 0; memory = replicate memory_size 0 } }
 {
     Carried {
-        state: state,
-        counters: [0u8; 8192],
-        memory: [0u8; MEMORY],
+        state,
+        counters: [0; 8192],
+        memory: [0; MEMORY],
     }
 }
 
@@ -35,6 +37,30 @@ pub fn marks() -> [Event; LEAST_CAPACITY]
     ensures { result ≡ replicate least_capacity marked }
 {
     [show::mark(); LEAST_CAPACITY]
+}
+
+fn made_packet(log: Carried, time: u64, p: &[u8]) -> (HeldLeast, Carried)
+    ensures { PacketLeft (packet_call log.state time p.now log.counters log.memory least_capacity) result.1 }
+{
+    let mut after = log;
+    let held = byvalue::packet_least(
+        log.state,
+        time,
+        p,
+        &mut after.counters,
+        &mut after.memory,
+        marks(),
+    );
+    after.state = held.answer.state;
+    (held, after)
+}
+
+fn made_clock(log: Carried, time: u64) -> (HeldLeast, Carried)
+    ensures { ClockLeft (clock_call log.state time log.memory least_capacity) log result.1 }
+{
+    let held = byvalue::clock_least(log.state, time, &log.memory, marks());
+    let state = held.answer.state;
+    (held, Carried { state, ..log })
 }
 
 // A packet call; the half-built length is that of a room.
@@ -46,29 +72,17 @@ pub fn given(
     p: &[u8],
     room: usize,
 ) -> Carried
-    ensures { (result.state ≡ (packet_call log.state time p.now log.counters log.memory least_capacity).state)
-        × (result.counters ≡ (packet_call log.state time p.now log.counters log.memory least_capacity).counters)
-        × (result.memory ≡ (packet_call log.state time p.now log.counters log.memory least_capacity).memory) }
+    ensures { PacketLeft (packet_call log.state time p.now log.counters log.memory least_capacity) result }
 {
-    let before = log.state;
-    let mut counters = log.counters;
-    let mut memory = log.memory;
-    let h = byvalue::packet_least(before, time, p, &mut counters, &mut memory, marks());
-    let a = h.answer;
-    let list = h.list;
+    let (held, after) = made_packet(log, time, p);
     show::text(lines, name);
-    show::answer(lines, a);
-    show::half(lines, a.state, room);
-    show::table(lines, &counters);
-    show::memory(lines, &memory);
+    show::answer(lines, held.answer);
+    show::half(lines, after.state, room);
+    show::table(lines, &after.counters);
+    show::memory(lines, &after.memory);
     show::text(lines, b"\n");
-    show::events(lines, list, a.n);
-    let after = a.state;
-    Carried {
-        state: after,
-        counters: counters,
-        memory: memory,
-    }
+    show::events(lines, held.list, held.answer.n);
+    after
 }
 
 // The same of a packet of 188 bytes that begins with the given ones.
@@ -80,64 +94,33 @@ pub fn packet(
     bytes: &[u8],
     room: usize,
 ) -> Carried {
-    let p = packets::filled(bytes);
-    given(lines, name, log, time, &p, room)
+    given(lines, name, log, time, &packets::filled(bytes), room)
 }
 
 // A clock call.
 pub fn clock(lines: &mut Lines, name: &[u8], log: Carried, time: u64) -> Carried
-    ensures { (result.state ≡ (clock_call log.state time log.memory least_capacity).state)
-        × (result.counters ≡ log.counters)
-        × (result.memory ≡ log.memory) }
+    ensures { ClockLeft (clock_call log.state time log.memory least_capacity) log result }
 {
-    let before = log.state;
-    let memory = log.memory;
-    let h = byvalue::clock_least(before, time, &memory, marks());
-    let a = h.answer;
-    let list = h.list;
+    let (held, after) = made_clock(log, time);
     show::text(lines, name);
-    show::answer(lines, a);
+    show::answer(lines, held.answer);
     show::text(lines, b"\n");
-    show::events(lines, list, a.n);
-    let after = a.state;
-    let mut r = log;
-    r.state = after;
-    r
+    show::events(lines, held.list, held.answer.n);
+    after
 }
 
 // A packet call without a line.
 pub fn silent_packet(log: Carried, time: u64, p: &[u8]) -> Carried
-    ensures { (result.state ≡ (packet_call log.state time p.now log.counters log.memory least_capacity).state)
-        × (result.counters ≡ (packet_call log.state time p.now log.counters log.memory least_capacity).counters)
-        × (result.memory ≡ (packet_call log.state time p.now log.counters log.memory least_capacity).memory) }
+    ensures { PacketLeft (packet_call log.state time p.now log.counters log.memory least_capacity) result }
 {
-    let before = log.state;
-    let mut counters = log.counters;
-    let mut memory = log.memory;
-    let h = byvalue::packet_least(before, time, p, &mut counters, &mut memory, marks());
-    let a = h.answer;
-    let after = a.state;
-    Carried {
-        state: after,
-        counters: counters,
-        memory: memory,
-    }
+    made_packet(log, time, p).1
 }
 
 // A clock call without a line.
 pub fn silent_clock(log: Carried, time: u64) -> Carried
-    ensures { (result.state ≡ (clock_call log.state time log.memory least_capacity).state)
-        × (result.counters ≡ log.counters)
-        × (result.memory ≡ log.memory) }
+    ensures { ClockLeft (clock_call log.state time log.memory least_capacity) log result }
 {
-    let before = log.state;
-    let memory = log.memory;
-    let h = byvalue::clock_least(before, time, &memory, marks());
-    let a = h.answer;
-    let after = a.state;
-    let mut r = log;
-    r.state = after;
-    r
+    made_clock(log, time).1
 }
 
 // An opening.

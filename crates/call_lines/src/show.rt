@@ -1,6 +1,6 @@
 // What a call answers and leaves, in lines.
 ghost use Rattle.std.specs.Prelude.{◌≡◌};
-ghost use Rattle.call_lines.specs.inner.Marks.{marked, is_marked};
+ghost use Rattle.call_lines.specs.inner.Marks.{marked};
 
 use calls::{Answer, State};
 use events::{Event, LEAST_CAPACITY};
@@ -57,10 +57,6 @@ pub fn number(lines: &mut Lines, n: u64) {
     lines.put(format_args!(" {n}"));
 }
 
-pub(crate) fn hex(lines: &mut Lines, n: u64, digits: usize) {
-    lines.put(format_args!(" {n:0digits$x}"));
-}
-
 // What the records hold before a call.
 pub(crate) fn mark() -> Event
     ensures { result ≡ marked }
@@ -73,76 +69,34 @@ pub(crate) fn mark() -> Event
     }
 }
 
-fn is_mark(e: Event) -> bool
-    ensures { result ≡ is_marked e }
-{
-    if e.stamp != 7 {
-        return false;
-    }
-    if e.fault != 7 {
-        return false;
-    }
-    if e.cause != 7 {
-        return false;
-    }
-    e.id == 7
-}
-
 // Stamp and cause decimal, fault and id four hex digits.
 fn event(lines: &mut Lines, e: Event) {
-    text(lines, b" ");
-    number(lines, e.stamp);
-    hex(lines, e.fault as u64, 4);
-    number(lines, e.cause as u64);
-    hex(lines, e.id as u64, 4);
-    text(lines, b"\n");
+    lines.put(format_args!("  {} {:04x} {} {:04x}\n", e.stamp, e.fault, e.cause, e.id));
 }
 
 // The first n records, and whether the others are untouched.
 pub fn events(lines: &mut Lines, list: [Event; LEAST_CAPACITY], n: usize) {
-    let mut untouched = true;
-    for i in 0..LEAST_CAPACITY {
-        let e = list[i];
-        if i < n {
-            event(lines, e);
-        } else {
-            untouched = untouched & is_mark(e);
-        }
+    for &e in list.iter().take(n) {
+        event(lines, e);
     }
-    if untouched {
-        return;
+    if list.iter().skip(n).any(|&e| e != mark()) {
+        text(lines, b"  a record past the events is written\n");
     }
-    text(lines, b"  a record past the events is written\n");
-}
-
-pub(crate) fn state(lines: &mut Lines, s: State) {
-    let c = s.core;
-    text(lines, b" latest");
-    number(lines, s.latest);
-    text(lines, b" lost");
-    number(lines, c.lost as u64);
-    text(lines, b" run");
-    number(lines, c.run as u64);
-    text(lines, b" count");
-    number(lines, c.count as u64);
 }
 
 // Refusal number, number of events, and the state.
 pub fn answer(lines: &mut Lines, a: Answer) {
-    text(lines, b": refusal");
-    number(lines, a.refusal as u64);
-    text(lines, b" n");
-    number(lines, a.n as u64);
-    state(lines, a.state);
+    let s = a.state;
+    let c = s.core;
+    lines.put(format_args!(": refusal {} n {}", a.refusal, a.n));
+    lines.put(format_args!(" latest {} lost {}", s.latest, u8::from(c.lost)));
+    lines.put(format_args!(" run {} count {}", c.run, c.count));
 }
 
 // The half-built length of a room.
 pub(crate) fn half(lines: &mut Lines, s: State, room: usize) {
-    let c = s.core;
-    let halves = c.half;
-    if room < 21 {
-        text(lines, b" half");
-        number(lines, halves[room] as u64);
+    if let Some(n) = s.core.half.get(room) {
+        lines.put(format_args!(" half {n}"));
     }
 }
 
@@ -150,25 +104,20 @@ pub(crate) fn half(lines: &mut Lines, s: State, room: usize) {
 fn turned(h: u64, b: u8) -> u64 {
     let x = h ^ (h << 13);
     let y = x ^ (x >> 7);
-    y ^ (y << 17) ^ (b as u64)
+    y ^ (y << 17) ^ u64::from(b)
 }
 
-// A digest of the counter table: a byte written anywhere shows.
+// A digest of bytes: one written anywhere shows.
+fn digest(s: &[u8]) -> u64 {
+    s.iter().fold(1, |h, &b| turned(h, b))
+}
+
+// That of the counter table.
 pub fn table(lines: &mut Lines, s: &[u8]) {
-    let mut h = 1u64;
-    for i in 0..s.len() {
-        h = turned(h, s[i]);
-    }
-    text(lines, b" table");
-    hex(lines, h, 16);
+    lines.put(format_args!(" table {:016x}", digest(s)));
 }
 
 // The same of section memory.
 pub fn memory(lines: &mut Lines, m: &[u8; MEMORY]) {
-    let mut h = 1u64;
-    for i in 0..MEMORY {
-        h = turned(h, m[i]);
-    }
-    text(lines, b" memory");
-    hex(lines, h, 16);
+    lines.put(format_args!(" memory {:016x}", digest(m)));
 }

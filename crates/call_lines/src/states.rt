@@ -11,80 +11,52 @@ pub fn fresh(time: u64) -> State
     ensures { result ≡ (open_answer time (replicate 8192 0)).state }
 {
     let mut counters = [0u8; 8192];
-    let a = probe::open(time, &mut counters);
-    a.state
+    probe::open(time, &mut counters).state
 }
 
 pub fn with_latest(s: State, t: u64) -> State
     ensures { result ≡ record { latest = t; core = s.core } }
 {
-    let mut r = s;
-    r.latest = t;
-    r
+    State { latest: t, ..s }
 }
 
-pub fn with_since(s: State, k: usize, t: u64) -> State
+pub fn with_since(mut s: State, k: usize, t: u64) -> State
     requires { k < 5 }
     ensures { result ≡ record { latest = s.latest; core = record { lost = s.core.lost; run = s.core.run; since = set s.core.since k t; count = s.core.count; entries = s.core.entries; half = s.core.half } } }
 {
-    let mut r = s;
-    let mut c = s.core;
-    let mut since = c.since;
-    since[k] = t;
-    c.since = since;
-    r.core = c;
-    r
+    s.core.since[k] = t;
+    s
 }
 
-pub fn with_sync(s: State, lost: bool, run: u8) -> State
+pub fn with_sync(mut s: State, lost: bool, run: u8) -> State
     ensures { result ≡ record { latest = s.latest; core = record { lost = lost; run = run; since = s.core.since; count = s.core.count; entries = s.core.entries; half = s.core.half } } }
 {
-    let mut r = s;
-    let mut c = s.core;
-    c.lost = lost;
-    c.run = run;
-    r.core = c;
-    r
+    s.core.lost = lost;
+    s.core.run = run;
+    s
 }
 
-pub fn with_count(s: State, n: usize) -> State
+pub fn with_count(mut s: State, n: usize) -> State
     ensures { result ≡ record { latest = s.latest; core = record { lost = s.core.lost; run = s.core.run; since = s.core.since; count = n; entries = s.core.entries; half = s.core.half } } }
 {
-    let mut r = s;
-    let mut c = s.core;
-    c.count = n;
-    r.core = c;
-    r
+    s.core.count = n;
+    s
 }
 
-pub fn with_entry(s: State, k: usize, number: u16, pid: u16, since: u64) -> State
+pub fn with_entry(mut s: State, k: usize, number: u16, pid: u16, since: u64) -> State
     requires { k < 16 }
     ensures { result ≡ record { latest = s.latest; core = record { lost = s.core.lost; run = s.core.run; since = s.core.since; count = s.core.count; entries = set s.core.entries k (record { number = number; pid = pid; since = since }); half = s.core.half } } }
 {
-    let mut r = s;
-    let mut c = s.core;
-    let mut entries = c.entries;
-    entries[k] = Entry {
-        number: number,
-        pid: pid,
-        since: since,
-    };
-    c.entries = entries;
-    r.core = c;
-    r
+    s.core.entries[k] = Entry { number, pid, since };
+    s
 }
 
-pub fn with_half(s: State, room: usize, n: u16) -> State
+pub fn with_half(mut s: State, room: usize, n: u16) -> State
     requires { room < 21 }
     ensures { result ≡ record { latest = s.latest; core = with_half (set s.core.half room n) s.core } }
 {
-    let mut r = s;
-    let mut c = s.core;
-    let mut half = c.half;
-    half[room] = n;
-    c.half = half;
-    r.core = c;
-    r
+    s.core.half[room] = n;
+    s
 }
 
 // Programmes 1 and 2, on the PIDs 0x1000 and 0x1001.

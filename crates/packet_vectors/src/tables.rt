@@ -18,6 +18,7 @@ const PAT_OF_2: [u8; 21] =
 const PAT_WITH_BAD_LIST: [u8; 25] =
     *b"\x47\x40\x00\x12\x00\x00\xb0\x11\x00\x01\xc5\x00\x00\x00\x03\xf0\x01\x00\x04\xe0\x1f\x78\xcd\xff\xf8";
 
+// Packet and clock calls by turns: an array of them would have to say of each which it is, and be no plainer.
 pub fn list_and_programme(lines: &mut Lines) {
     let mut log = run::from(states::fresh(0));
     log = run::packet(lines, b"PAT of 1", log, 100, &PAT_OF_1, 0);
@@ -43,31 +44,20 @@ pub fn list_and_programme(lines: &mut Lines) {
 
 pub fn scrambled(lines: &mut Lines) {
     let mut log = run::from(states::with_half(states::two_listed(states::fresh(0)), 0, 2));
-    log = run::packet(lines, b"scrambled on PID 0", log, 1, b"\x47\x00\x00\x90", 0);
-    log = run::packet(
-        lines,
-        b"scrambled on a PMT PID",
-        log,
-        2,
-        b"\x47\x10\x01\x50",
-        6,
-    );
-    log = run::packet(
-        lines,
-        b"scrambled elsewhere",
-        log,
-        3,
-        b"\x47\x00\x11\xd0",
-        2,
-    );
-    run::packet(
-        lines,
-        b"scrambled, without payload",
-        log,
-        4,
-        b"\x47\x10\x01\xe0\xb7\x00",
-        6,
-    );
+    let steps: [(&[u8], u64, &[u8], usize); 4] = [
+        (b"scrambled on PID 0", 1, b"\x47\x00\x00\x90", 0),
+        (b"scrambled on a PMT PID", 2, b"\x47\x10\x01\x50", 6),
+        (b"scrambled elsewhere", 3, b"\x47\x00\x11\xd0", 2),
+        (
+            b"scrambled, without payload",
+            4,
+            b"\x47\x10\x01\xe0\xb7\x00",
+            6,
+        ),
+    ];
+    for (name, time, bytes, room) in steps {
+        log = run::packet(lines, name, log, time, bytes, room);
+    }
 }
 
 const PAT_WITH_WRONG_CRC: [u8; 21] =
@@ -78,49 +68,43 @@ const WRONG_AND_GOOD: [u8; 37] =
 
 pub fn damaged(lines: &mut Lines) {
     let mut log = run::from(states::two_listed(states::fresh(0)));
-    log = run::packet(lines, b"wrong CRC_32", log, 1, &PAT_WITH_WRONG_CRC, 0);
-    log = run::packet(
-        lines,
-        b"section_length 1022",
-        log,
-        2,
-        b"\x47\x40\x00\x11\x00\x00\xb3\xfe",
-        0,
-    );
-    log = run::packet(
-        lines,
-        b"section_length 8",
-        log,
-        3,
-        b"\x47\x40\x00\x12\x00\x00\xb0\x08",
-        0,
-    );
-    log = run::packet(
-        lines,
-        b"table_id 0x01 on PID 0",
-        log,
-        4,
-        b"\x47\x40\x00\x13\x00\x01\x30\x01\x00",
-        0,
-    );
-    log = run::packet(
-        lines,
-        b"table_id 0x00 on a PMT PID",
-        log,
-        5,
-        b"\x47\x50\x01\x10\x00\x00\x30\x01\x00",
-        6,
-    );
-    log = run::packet(
-        lines,
-        b"EIT of length 4094",
-        log,
-        6,
-        b"\x47\x40\x12\x10\x00\x4e\xff\xfe",
-        3,
-    );
-    let after = log.state;
-    log.state = states::with_half(after, 3, 2);
+    let steps: [(&[u8], u64, &[u8], usize); 6] = [
+        (b"wrong CRC_32", 1, &PAT_WITH_WRONG_CRC, 0),
+        (
+            b"section_length 1022",
+            2,
+            b"\x47\x40\x00\x11\x00\x00\xb3\xfe",
+            0,
+        ),
+        (
+            b"section_length 8",
+            3,
+            b"\x47\x40\x00\x12\x00\x00\xb0\x08",
+            0,
+        ),
+        (
+            b"table_id 0x01 on PID 0",
+            4,
+            b"\x47\x40\x00\x13\x00\x01\x30\x01\x00",
+            0,
+        ),
+        (
+            b"table_id 0x00 on a PMT PID",
+            5,
+            b"\x47\x50\x01\x10\x00\x00\x30\x01\x00",
+            6,
+        ),
+        (
+            b"EIT of length 4094",
+            6,
+            b"\x47\x40\x12\x10\x00\x4e\xff\xfe",
+            3,
+        ),
+    ];
+    for (name, time, bytes, room) in steps {
+        log = run::packet(lines, name, log, time, bytes, room);
+    }
+    log.state = states::with_half(log.state, 3, 2);
     log = run::packet(lines, b"pointer 183", log, 7, b"\x47\x40\x12\x11\xb7", 3);
     run::packet(
         lines,

@@ -31,30 +31,27 @@ pub fn packet(
     ensures { PacketDone (packet_call state time packet.now counters.old memory.old (length events.old))
         result counters.new memory.new events.old events.new }
 {
-    let mut numbers = [0u64; NUMBERS];
-    let capacity = events.len();
+    let mut numbers = [0; NUMBERS];
     let out = engine::packet_at(
         state,
         time,
         packet,
         counters,
         memory,
-        capacity,
+        events.len(),
         &mut numbers,
     );
-    let n = out.n;
-    records::hand_over(&numbers, n, events);
+    records::hand_over(&numbers, out.n, events);
     out
 }
 
-// A clock call: the late events. Refusals 3 to 6.
+// A clock call: the late events. Refusals 3 to 6. Only the engine's call tells it from `packet`; one function for both would
+// take that call as a closure, and of the table and memory that the closure changes no proof would know.
 pub fn clock(state: State, time: u64, memory: &[u8; MEMORY], events: &mut [Event]) -> Answer
     ensures { ClockDone (clock_call state time memory.now (length events.old)) result events.old events.new }
 {
-    let mut numbers = [0u64; NUMBERS];
-    let capacity = events.len();
-    let out = engine::clock_at(state, time, memory, capacity, &mut numbers);
-    let n = out.n;
-    records::hand_over(&numbers, n, events);
+    let mut numbers = [0; NUMBERS];
+    let out = engine::clock_at(state, time, memory, events.len(), &mut numbers);
+    records::hand_over(&numbers, out.n, events);
     out
 }

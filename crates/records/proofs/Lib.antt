@@ -1,3 +1,2 @@
-pub mod Over
 pub mod ReadBack
 pub mod Rooms

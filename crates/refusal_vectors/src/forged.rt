@@ -4,12 +4,12 @@ use call_lines::{packets, run, show, states};
 use calls::{Answer, State};
 use sections::MEMORY;
 
-const ABOVE: u64 = 4611686018427387905;
+pub const GREATEST: u64 = 1 << 62;
 
-const GREATEST: u64 = 4611686018427387904;
+pub const ABOVE: u64 = GREATEST + 1;
 
 fn numbers(lines: &mut Lines, a: Answer) {
-    show::number(lines, a.refusal as u64);
+    show::number(lines, u64::from(a.refusal));
     show::number(lines, a.n as u64);
 }
 
@@ -22,23 +22,20 @@ pub fn both_over(
     memory: &mut [u8; MEMORY],
 ) {
     let p = packets::filled(b"\x47\x01\x00\x10");
-    let mut counters = [0u8; 8192];
-    show::text(lines, name);
+    let mut counters = [0; 8192];
     let k = byvalue::clock_least(state, time, memory, run::marks());
     let h = byvalue::packet_least(state, time, &p, &mut counters, memory, run::marks());
-    let a = h.answer;
-    let b = k.answer;
+    show::text(lines, name);
     show::text(lines, b": packet");
-    numbers(lines, a);
+    numbers(lines, h.answer);
     show::text(lines, b" clock");
-    numbers(lines, b);
+    numbers(lines, k.answer);
     show::text(lines, b"\n");
 }
 
 // The same over memory of zeros.
 pub fn both(lines: &mut Lines, name: &[u8], state: State, time: u64) {
-    let mut memory = [0u8; MEMORY];
-    both_over(lines, name, state, time, &mut memory);
+    both_over(lines, name, state, time, &mut [0; MEMORY]);
 }
 
 pub fn times(lines: &mut Lines) {
@@ -56,36 +53,16 @@ pub fn times(lines: &mut Lines) {
         states::with_latest(s, ABOVE),
         GREATEST,
     );
-    both(
-        lines,
-        b"PAT since above 2^62",
-        states::with_since(s, 0, ABOVE),
-        1000,
-    );
-    both(
-        lines,
-        b"NIT since above 2^62",
-        states::with_since(s, 1, ABOVE),
-        1000,
-    );
-    both(
-        lines,
-        b"SDT since above 2^62",
-        states::with_since(s, 2, ABOVE),
-        1000,
-    );
-    both(
-        lines,
-        b"EIT since above 2^62",
-        states::with_since(s, 3, ABOVE),
-        1000,
-    );
-    both(
-        lines,
-        b"TDT since above 2^62",
-        states::with_since(s, 4, ABOVE),
-        1000,
-    );
+    let tables = [b"PAT", b"NIT", b"SDT", b"EIT", b"TDT"];
+    for (k, table) in tables.iter().enumerate() {
+        show::text(lines, *table);
+        both(
+            lines,
+            b" since above 2^62",
+            states::with_since(s, k, ABOVE),
+            1000,
+        );
+    }
     both(
         lines,
         b"TDT since 2^62, after the latest time",
@@ -98,60 +75,26 @@ pub fn lists(lines: &mut Lines) {
     let s = states::two_listed(states::fresh(1000));
     both(lines, b"two programmes", s, 1000);
     both(lines, b"17 programmes", states::with_count(s, 17), 1000);
-    both(
-        lines,
-        b"number 0",
-        states::with_entry(s, 1, 0, 0x1001, 0),
-        1000,
-    );
-    both(
-        lines,
-        b"a number twice",
-        states::with_entry(s, 1, 1, 0x1001, 0),
-        1000,
-    );
-    both(
-        lines,
-        b"a PID twice",
-        states::with_entry(s, 1, 2, 0x1000, 0),
-        1000,
-    );
-    both(
-        lines,
-        b"PID 0x001F",
-        states::with_entry(s, 1, 2, 0x001F, 0),
-        1000,
-    );
-    both(
-        lines,
-        b"PID 0x0020",
-        states::with_entry(s, 1, 2, 0x0020, 0),
-        1000,
-    );
-    both(
-        lines,
-        b"PID 0x1FFE",
-        states::with_entry(s, 1, 2, 0x1FFE, 0),
-        1000,
-    );
-    both(
-        lines,
-        b"PID 0x1FFF",
-        states::with_entry(s, 1, 2, 0x1FFF, 0),
-        1000,
-    );
-    both(
-        lines,
-        b"PID 0xFFFF",
-        states::with_entry(s, 1, 2, 0xFFFF, 0),
-        1000,
-    );
-    both(
-        lines,
-        b"since above 2^62",
-        states::with_entry(s, 1, 2, 0x1001, ABOVE),
-        1000,
-    );
+    // a number, a PID and a since for the second programme
+    let second: [(&[u8], u16, u16, u64); 9] = [
+        (b"number 0", 0, 0x1001, 0),
+        (b"a number twice", 1, 0x1001, 0),
+        (b"a PID twice", 2, 0x1000, 0),
+        (b"PID 0x001F", 2, 0x001F, 0),
+        (b"PID 0x0020", 2, 0x0020, 0),
+        (b"PID 0x1FFE", 2, 0x1FFE, 0),
+        (b"PID 0x1FFF", 2, 0x1FFF, 0),
+        (b"PID 0xFFFF", 2, 0xFFFF, 0),
+        (b"since above 2^62", 2, 0x1001, ABOVE),
+    ];
+    for (name, number, pid, since) in second {
+        both(
+            lines,
+            name,
+            states::with_entry(s, 1, number, pid, since),
+            1000,
+        );
+    }
     both(
         lines,
         b"all of it in an unlisted place",
@@ -168,24 +111,14 @@ pub fn lists(lines: &mut Lines) {
 
 pub fn syncs(lines: &mut Lines) {
     let s = states::fresh(1000);
-    both(
-        lines,
-        b"in sync, run 1",
-        states::with_sync(s, false, 1),
-        1000,
-    );
-    both(
-        lines,
-        b"in sync, run 2",
-        states::with_sync(s, false, 2),
-        1000,
-    );
-    both(lines, b"lost, run 4", states::with_sync(s, true, 4), 1000);
-    both(lines, b"lost, run 5", states::with_sync(s, true, 5), 1000);
-    both(
-        lines,
-        b"lost, run 255",
-        states::with_sync(s, true, 255),
-        1000,
-    );
+    let forged: [(&[u8], bool, u8); 5] = [
+        (b"in sync, run 1", false, 1),
+        (b"in sync, run 2", false, 2),
+        (b"lost, run 4", true, 4),
+        (b"lost, run 5", true, 5),
+        (b"lost, run 255", true, 255),
+    ];
+    for (name, lost, run) in forged {
+        both(lines, name, states::with_sync(s, lost, run), 1000);
+    }
 }

@@ -5,25 +5,24 @@ use sections::MEMORY;
 
 fn byte(lines: &mut Lines, b: u8) {
     let p = packets::filled(b"\x47\x01\x00\x10");
-    let mut counters = [0u8; 8192];
-    let mut memory = [0u8; MEMORY];
+    let mut counters = [0; 8192];
+    let mut memory = [0; MEMORY];
     counters[256] = b;
     let s = states::fresh(0);
-    let h = byvalue::packet_least(s, 0, &p, &mut counters, &mut memory, run::marks());
-    let a = h.answer;
+    let a = byvalue::packet_least(s, 0, &p, &mut counters, &mut memory, run::marks()).answer;
     show::text(lines, b"table byte");
-    show::number(lines, b as u64);
+    show::number(lines, u64::from(b));
     show::text(lines, b": refusal");
-    show::number(lines, a.refusal as u64);
+    show::number(lines, u64::from(a.refusal));
     show::text(lines, b" n");
     show::number(lines, a.n as u64);
     show::text(lines, b" byte");
-    show::number(lines, octets::byte_at(&counters, 256) as u64);
+    show::number(lines, u64::from(counters[256]));
     show::text(lines, b"\n");
 }
 
 pub fn every_byte(lines: &mut Lines) {
-    for b in 0..256usize {
-        byte(lines, b as u8);
+    for b in 0..=u8::MAX {
+        byte(lines, b);
     }
 }

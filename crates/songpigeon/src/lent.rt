@@ -12,18 +12,14 @@ use events::{Event, NUMBERS};
 use sections::MEMORY;
 
 // The arrays after an opening: its state, unless it was refused.
+#[tactic(auto, unfolding(arrays::specs::Replies::times_after, arrays::specs::Replies::words_after))]
 fn lay_answer(a: Answer, times: &mut [u64; TIMES], words: &mut [u16; WORDS])
     ensures { (times.new ≡ times_after a times.old) × (words.new ≡ words_after a words.old) }
 {
-    let refusal = a.refusal;
-    if refusal != 0 {
-        return;
+    if a.refusal == 0 {
+        arrays::lay_times(a.state, times);
+        arrays::lay_words(a.state, words);
     }
-    let t = arrays::time_count(times);
-    let w = arrays::word_count(words);
-    let after = a.state;
-    arrays::lay_times(after, times);
-    arrays::lay_words(after, words);
 }
 
 // Opening: the arrays hold the state of an opening at `time`, and the counter table is 0 throughout. Refusals 2
@@ -58,12 +54,17 @@ pub fn songpigeon_packet(
     ensures { PacketReplied (packet_call (state_in times.old words.old) time packet.now counters.old memory.old (length events.old))
         result times.old times.new words.old words.new counters.new memory.new numbers.old numbers.new events.old events.new }
 {
-    let capacity = events.len();
     let out = engine::packet_in(
-        times, words, time, packet, counters, memory, capacity, numbers,
+        times,
+        words,
+        time,
+        packet,
+        counters,
+        memory,
+        events.len(),
+        numbers,
     );
-    let n = out.n;
-    records::hand_over(numbers, n, events);
+    records::hand_over(numbers, out.n, events);
     out
 }
 
@@ -79,9 +80,7 @@ pub fn songpigeon_clock(
     ensures { ClockReplied (clock_call (state_in times.old words.old) time memory.now (length events.old))
         result times.old times.new words.old words.new numbers.old numbers.new events.old events.new }
 {
-    let capacity = events.len();
-    let out = engine::clock_in(times, words, time, memory, capacity, numbers);
-    let n = out.n;
-    records::hand_over(numbers, n, events);
+    let out = engine::clock_in(times, words, time, memory, events.len(), numbers);
+    records::hand_over(numbers, out.n, events);
     out
 }

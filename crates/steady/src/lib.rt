@@ -14,32 +14,31 @@ use std::{io, thread};
 
 // Nothing says that a call ever succeeds, so tries are counted down: at one a nanosecond that takes five hundred
 // years.
-const MOST_TRIES: u64 = 18446744073709551615;
+const MOST_TRIES: u64 = u64::MAX;
 
 // Whether the call that failed just now is to be made again, and where it has to wait for that, the waiting: a
 // thousandth of a second.
 fn again(clock: &impl Clock, why: &Error) -> bool {
-    let kind = why.kind();
-    if matches!(&kind, ErrorKind::WouldBlock) {
-        thread::sleep(clock, Duration::from_millis(1));
-        return true;
+    match why.kind() {
+        ErrorKind::Interrupted => true,
+        ErrorKind::WouldBlock => {
+            thread::sleep(clock, Duration::from_millis(1));
+            true
+        }
+        _ => false,
     }
-    matches!(&kind, ErrorKind::Interrupted)
 }
 
-// One read: how many bytes it brought, 0 at the input's end.
+// One read: how many bytes it brought, 0 at the input's end. `write_some` is its twin: one function that takes the call as
+// a closure was tried, and what a closure changes of the lent reader and bytes no proof knows, so `bytes` was lost.
 pub fn read_some<R: Read>(clock: &impl Clock, reader: &mut R, buf: &mut [u8]) -> io::Result<usize>
     ensures bound { ReadsAtMost result buf.new }
     ensures bytes { ReadConsumes (R.remaining reader.old) (R.remaining reader.new) result buf.new }
 {
     for _ in 0..MOST_TRIES {
         match reader.read(buf) {
-            Ok(n) => return Ok(n),
-            Err(why) => {
-                if !again(clock, &why) {
-                    return Err(why);
-                }
-            }
+            Err(why) if again(clock, &why) => {}
+            done => return done,
         }
     }
     Err(Error::from(ErrorKind::WouldBlock))
@@ -52,12 +51,8 @@ fn write_some<W: Write>(clock: &impl Clock, writer: &mut W, buf: &[u8]) -> io::R
 {
     for _ in 0..MOST_TRIES {
         match writer.write(buf) {
-            Ok(n) => return Ok(n),
-            Err(why) => {
-                if !again(clock, &why) {
-                    return Err(why);
-                }
-            }
+            Err(why) if again(clock, &why) => {}
+            done => return done,
         }
     }
     Err(Error::from(ErrorKind::WouldBlock))
@@ -68,13 +63,13 @@ fn write_some<W: Write>(clock: &impl Clock, writer: &mut W, buf: &[u8]) -> io::R
 pub fn write_whole<W: Write>(clock: &impl Clock, writer: &mut W, buf: &[u8]) -> io::Result<()>
     ensures bytes { OnOk result (Appends (W.contents writer.old) (W.contents writer.new) buf.now) }
 {
-    let mut from: usize = 0;
-    while from < buf.len() {
-        let n = write_some(clock, writer, &buf[from..])?;
+    let mut rest = buf;
+    while !rest.is_empty() {
+        let n = write_some(clock, writer, rest)?;
         if n == 0 {
             return Err(Error::from(ErrorKind::WriteZero));
         }
-        from += n;
+        rest = &rest[n..];
     }
     Ok(())
 }
