@@ -45,12 +45,12 @@ pub fn judge(byte: u8, h: Header) -> Counted
     // Control 10 needs adaptation length 183, control 11 needs 0 to 182. Length 0 has no discontinuity indicator: it counts as 0.
     // With a wrong length it counts as 0 too [so far `header`: `h.right`, `h.discontinuity`]
     // and there is no payload to take [control 10 has none]
-    let payload = h.right & !control_10;
+    let payload = h.right && !control_10;
     // (control 11 also drops the PID's half-built section).
-    let section = h.right | !control_11;
+    let section = h.right || !control_11;
 
     // A set discontinuity indicator, or an unseen PID: byte becomes 16+counter, no event, half-built section dropped, payload taken.
-    if h.discontinuity | unseen {
+    if h.discontinuity || unseen {
         return Counted {
             byte: 16 + counter,
             event: false,
@@ -59,7 +59,7 @@ pub fn judge(byte: u8, h: Header) -> Counted
         };
     }
     // Control 10: an equal counter changes nothing;
-    if control_10 & (counter == last) {
+    if control_10 && counter == last {
         return Counted {
             byte,
             event: false,
@@ -86,7 +86,7 @@ pub fn judge(byte: u8, h: Header) -> Counted
         };
     }
     // Counter c once is a repeat: 48+c, payload skipped, no event.
-    if (counter == last) & !repeated {
+    if counter == last && !repeated {
         return Counted {
             byte: 48 + counter,
             event: false,

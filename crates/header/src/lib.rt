@@ -75,7 +75,8 @@ pub fn read(p: &[u8]) -> Header
         control,
         counter: p[3] % 16,
         right,
-        // Length 0 has no discontinuity indicator: it counts as 0. With a wrong length it counts as 0 too
+        // Length 0 has no discontinuity indicator: it counts as 0. With a wrong length it counts as 0 too [`&&` was tried here, and
+        // is slower]
         discontinuity: (0b10 <= control) & right & (0 < length) & (128 <= p[5]),
         payload: payload_place(control, length),
     }

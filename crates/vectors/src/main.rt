@@ -58,31 +58,33 @@ fn crc_sections(rt: &impl Print) -> io::Result<()> {
 // One limit of a kind: the limit itself, and one tick above.
 fn severity_edge(rt: &impl Print, kind: usize, limit: u64) -> io::Result<()> {
     severity_of(rt, kind, limit)?;
-    if limit < 18_446_744_073_709_551_615 {
-        severity_of(rt, kind, limit + 1)?;
+    if let Some(above) = limit.checked_add(1) {
+        severity_of(rt, kind, above)?;
     }
     Ok(())
 }
 
-// The three limits of a kind.
-fn severity_row(rt: &impl Print, kind: usize, tnc: u64, qos: u64, absence: u64) -> io::Result<()> {
-    severity_edge(rt, kind, tnc)?;
-    severity_edge(rt, kind, qos)?;
-    severity_edge(rt, kind, absence)
-}
+// The three limits of each kind, down the table.
+const LIMITS: [[u64; 3]; 6] = [
+    [2_700_000, 5_400_000, 13_500_000],
+    [10_800_000, 21_600_000, 54_000_000],
+    [13_500_000, 27_000_000, 67_500_000],
+    [81_000_000, 162_000_000, 405_000_000],
+    [1_620_000_000, 3_240_000_000, 8_100_000_000],
+    [27_000_000, 54_000_000, 135_000_000],
+];
 
 // Every row of the table, the least and the greatest gap, and kinds that are not listed.
 fn severity_table(rt: &impl Print) -> io::Result<()> {
-    severity_row(rt, 0, 2_700_000, 5_400_000, 13_500_000)?;
-    severity_row(rt, 1, 10_800_000, 21_600_000, 54_000_000)?;
-    severity_row(rt, 2, 13_500_000, 27_000_000, 67_500_000)?;
-    severity_row(rt, 3, 81_000_000, 162_000_000, 405_000_000)?;
-    severity_row(rt, 4, 1_620_000_000, 3_240_000_000, 8_100_000_000)?;
-    severity_row(rt, 5, 27_000_000, 54_000_000, 135_000_000)?;
+    for (kind, limits) in LIMITS.iter().enumerate() {
+        for &limit in limits {
+            severity_edge(rt, kind, limit)?;
+        }
+    }
     severity_of(rt, 0, 0)?;
-    severity_of(rt, 5, 18_446_744_073_709_551_615)?;
+    severity_of(rt, 5, u64::MAX)?;
     severity_of(rt, 6, 0)?;
-    severity_of(rt, 18_446_744_073_709_551_615, 18_446_744_073_709_551_615)
+    severity_of(rt, usize::MAX, u64::MAX)
 }
 
 fn main(rt: HostRuntime) -> io::Result<()> {
