@@ -58,7 +58,7 @@ module _ {A B : Type 0} (f : A → B) (again : B → A) (back : (v : A) → agai
   told_alike : (a b : Result A Refusal) → told_as f a ≡ told_as f b → a ≡ b
   told_alike a b e = sym (answer_back a) ∙ ap (λ (t : Told B). answer_from t.number t.values) e ∙ answer_back b
 
--- an answer that is told by a number: its value, where the number is 0, or the refusal of that number
+-- an answer that is told by a number and has a value: the number is 0, and the value is the one told
 module _ {A B : Type 0} (f : A → B) (n : ℕ) (w : B) where
   pub told_ok : (v : A) → told_as f (Ok v) ≡ told_by n w → (n ≡ 0) × (f v ≡ w)
   told_ok v h = go (eqb n 0) refl h
@@ -66,13 +66,6 @@ module _ {A B : Type 0} (f : A → B) (n : ℕ) (w : B) where
       go : (t : Bool) → eqb n 0 ≡ t → telling (f v) ≡ cond t (telling w) (refusing n) → (n ≡ 0) × (f v ≡ w)
       go true t e = (eqb-true n 0 t, ap (λ (x : Told B). after_told x (λ y. y) w) e)
       go false t e = absurd (eqb-false n 0 t (sym (ap (λ (x : Told B). x.number) e)))
-
-  pub told_err : (e : Refusal) → told_as f (Err e) ≡ told_by n w → number_of e ≡ n
-  told_err e h = go (eqb n 0) h
-    where
-      go : (t : Bool) → refusing (number_of e) ≡ cond t (telling w) (refusing n) → number_of e ≡ n
-      go true h = absurd (number_not_zero e (ap (λ (x : Told B). x.number) h))
-      go false h = ap (λ (x : Told B). x.number) h
 
 -- A WRITE
 pub written_alike : (a b : Result ℕ Refusal) → written_says a ≡ written_says b → a ≡ b
