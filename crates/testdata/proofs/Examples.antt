@@ -19,7 +19,7 @@ use Rattle.testdata.specs.declared.Refusal.TheVariants.{BadLength, BadCrc, RunsP
 use Rattle.testdata.specs.declared.Descriptor.TheVariants.{Known, Other}
 use Rattle.testdata.specs.declared.Descriptor.{Descriptor}
 use Rattle.testdata.specs.declared.Step.{Step}
-use Rattle.testdata.specs.Told.{number_of, refusing, telling}
+use Rattle.testdata.specs.Told.{paper_number, refusing, telling}
 use Rattle.testdata.specs.Descriptors.{right_size, row, is_whole, sizes_right, fits_fixed, elementary_of, gps_of, reduced_pcr_of, program_of, of_fixed_size, of_other_tag, at_end, step_says, standing_of, descriptor_told}
 use Rattle.testdata.specs.Section.{head_byte, length_bytes, syntax_bytes, size_of, unsealed, section_of, fits_head, fits_syntax}
 use Rattle.testdata.specs.Reader.{fields_of, loop_of, data_of, length_wrong, read_refusal, reading_says, read_told, handed_out}
@@ -345,7 +345,7 @@ abbrev stands : Descriptor → Cursor → Step
 stands d next = record { descriptor = d; next = next }
 
 pub record Cases : Type 0 where
-  pub refusals : map number_of (BadLength ∷ BadCrc ∷ RunsPast ∷ BadSize ∷ TooShort ∷ []) ≡ 11 ∷ 12 ∷ 13 ∷ 14 ∷ 15 ∷ []
+  pub refusals : map paper_number (BadLength ∷ BadCrc ∷ RunsPast ∷ BadSize ∷ TooShort ∷ []) ≡ 11 ∷ 12 ∷ 13 ∷ 14 ∷ 15 ∷ []
   pub length_written : written_says (Ok 5) ≡ record { number = 0; values = 5 ∷ [] }
   pub write_refused : written_says (Err TooShort) ≡ record { number = 15; values = [] }
   pub section_read : reading_says (Ok (record { fields = Plain head; descriptors = place 3 0; «data» = place 3 4 }))

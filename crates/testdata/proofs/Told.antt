@@ -19,7 +19,7 @@ use Rattle.testdata.specs.declared.Step.{Step}
 use Rattle.testdata.specs.declared.Fields.{Fields}
 use Rattle.testdata.specs.declared.Fields.TheVariants.{Plain, Generic}
 use Rattle.testdata.specs.declared.Section.{Section}
-use Rattle.testdata.specs.Told.{number_of, Told, refusing, telling, told_as, told_by, after_told}
+use Rattle.testdata.specs.Told.{paper_number, Told, refusing, telling, told_as, told_by, after_told}
 use Rattle.testdata.specs.Numbers.{bad_length, bad_crc, runs_past, bad_size, elementary_tag, gps_tag, reduced_pcr_tag}
 use Rattle.testdata.specs.Descriptors.{tag_of, fixed_values, Standing, of_fixed_size, of_other_tag, at_end, descriptor_standing, step_standing, step_says}
 use Rattle.testdata.specs.Section.{indicator_of, field_values}
@@ -30,14 +30,14 @@ use Rattle.testdata.specs.Writer.{written_says}
 abbrev refusal_from : ℕ → Refusal
 refusal_from n = cond (eqb n bad_length) BadLength (cond (eqb n bad_crc) BadCrc (cond (eqb n runs_past) RunsPast (cond (eqb n bad_size) BadSize TooShort)))
 
-refusal_back : (e : Refusal) → refusal_from (number_of e) ≡ e
+refusal_back : (e : Refusal) → refusal_from (paper_number e) ≡ e
 refusal_back BadLength = refl
 refusal_back BadCrc = refl
 refusal_back RunsPast = refl
 refusal_back BadSize = refl
 refusal_back TooShort = refl
 
-pub number_not_zero : (e : Refusal) → number_of e ≡ 0 → ⊥
+pub number_not_zero : (e : Refusal) → paper_number e ≡ 0 → ⊥
 number_not_zero BadLength h = omega arith
 number_not_zero BadCrc h = omega arith
 number_not_zero RunsPast h = omega arith

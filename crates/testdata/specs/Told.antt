@@ -1,7 +1,7 @@
 -- What an answer tells: document 01, "What to write where" ("Whenever an answer is an enum, a definition gives this paper's number and values for each of
 -- the enum's cases"), and "Test data sections" ("A refusal gives its number alone, a write its length").
 --
---   number_of e   == the number of a refusal
+--   paper_number e   == the number of a refusal
 --   Told A       == a number, 0 where nothing is refused, and with it the values; none on a refusal
 --   refusing n   == a refusal: its number alone
 --   telling v    == no refusal: the values v
@@ -14,12 +14,12 @@ use Rattle.testdata.specs.declared.Refusal.{Refusal}
 use Rattle.testdata.specs.declared.Refusal.TheVariants.{BadLength, BadCrc, RunsPast, BadSize, TooShort}
 use Rattle.testdata.specs.Numbers.{bad_length, bad_crc, runs_past, bad_size, too_short}
 
-abbrev pub number_of : Refusal → ℕ
-number_of BadLength = bad_length
-number_of BadCrc = bad_crc
-number_of RunsPast = runs_past
-number_of BadSize = bad_size
-number_of TooShort = too_short
+abbrev pub paper_number : Refusal → ℕ
+paper_number BadLength = bad_length
+paper_number BadCrc = bad_crc
+paper_number RunsPast = runs_past
+paper_number BadSize = bad_size
+paper_number TooShort = too_short
 
 pub record Told (A : Type 0) : Type 0 where
   pub number : ℕ
@@ -33,7 +33,7 @@ telling v = record { number = 0; values = v ∷ [] }
 
 abbrev pub told_as : {A B : Type 0} → (A → B) → Result A Refusal → Told B
 told_as f (Ok v) = telling (f v)
-told_as f (Err e) = refusing (number_of e)
+told_as f (Err e) = refusing (paper_number e)
 
 abbrev pub refused_as : {A : Type 0} → Result A Refusal → ℕ
 refused_as r = (told_as (λ v. v) r).number
