@@ -17,7 +17,7 @@ use sections::{MEMORY, ROOMS};
 use watches::{Entry, FIXED, NO_ENTRY};
 
 // The list of a good PAT section: how many programmes are listed, whether the list is bad, and sixteen
-// entries by value, of which the first `count` are listed.
+// entries by value, of which the first `count` are listed. An array with its count, as the definition `list_of` has it.
 #[derive(Clone, Copy)]
 pub struct Listed {
     pub count: usize,
@@ -108,7 +108,8 @@ fn read_one(count: usize, t: u64, old: &[Entry], e: &[u8], k: usize) -> Addition
     Addition::One(entry_for(t, old, number, pid))
 }
 
-// The list of the entries e; old is the list just replaced.
+// The list of the entries e, which are read by their place, since each is judged by those before it (`seen_to`); old is
+// the list just replaced.
 fn read_entries(t: u64, old: &[Entry], e: &[u8]) -> Listed
     ensures { (result ≡ read_on t old.now [] none_listed e.now) × (result.count ≤ most_listed) }
 {
