@@ -122,18 +122,21 @@ fn listed_in(words: &[u16]) -> usize
 }
 
 // The sixteen entries, the listed ones first: a loop whose length the compiler does not know keeps the
-// entries together in memory.
+// entries together in memory. Two `for`s were tried, and miss a bar of speed: a PAT of sixteen programmes takes a tenth longer.
 pub fn entries_in(times: &[u64], words: &[u16]) -> [Entry; MOST_LISTED]
     requires { (core_time_count ≤ length times.now) × (core_word_count ≤ length words.now) }
     ensures { result ≡ entries_in times.now words.now }
 {
     let mut out = [NO_ENTRY; MOST_LISTED];
     let n = listed_in(words);
-    for k in 0..n {
+    let mut k: usize = 0;
+    while k < n {
         out[k] = entry_at(times, words, k);
+        k += 1;
     }
-    for k in n..MOST_LISTED {
+    while k < MOST_LISTED {
         out[k] = entry_at(times, words, k);
+        k += 1;
     }
     out
 }
