@@ -7,11 +7,9 @@ mod moves;
 
 ghost use Rattle.std.specs.Prelude.{◌≡◌, ◌+◌, ◌<◌, ◌≤◌, [], ◌∷◌, map, length};
 ghost use Rattle.std.proofs.lemmas.List.Edits.{sets};
-ghost use Rattle.watches.specs.Tables.{fixed_count};
 ghost use Rattle.sections.specs.Rooms.{room_count};
 ghost use Rattle.programmes.specs.Listing.{most_listed};
-ghost use Rattle.arrays.specs.Lent.{time_count, word_count, lost_word, count_word, run_in, gaps_in, halves_in, entry_in, entries_in, times_of, words_of, state_in, gaps_at, sinces_at, numbers_at, pids_at, halves_at, lost_at, core_time_count, core_word_count};
-ghost use Rattle.arrays.specs.inner.Kept.{Typed};
+ghost use Rattle.arrays.specs.Lent.{time_count, word_count, count_word, gaps_in, halves_in, entry_in, entries_in, times_of, words_of, state_in, sinces_at, numbers_at, pids_at, halves_at, core_time_count, core_word_count};
 
 use calls::{Core, State};
 pub use moves::{
@@ -56,31 +54,6 @@ pub const COUNT: usize = RUN + 1;
 
 pub const WORDS: usize = COUNT + 1;
 
-fn times_in(s: &[u64]) -> usize
-    ensures { result ≡ length s.now }
-{
-    s.len()
-}
-
-fn words_in(s: &[u16]) -> usize
-    ensures { result ≡ length s.now }
-{
-    s.len()
-}
-
-// The arrays have their lengths by their types: a call of these shows it.
-pub fn time_count(times: &[u64; TIMES]) -> usize
-    ensures { (result ≡ time_count) × (length times.now ≡ time_count) }
-{
-    times_in(times)
-}
-
-pub fn word_count(words: &[u16; WORDS]) -> usize
-    ensures { (result ≡ word_count) × (length words.now ≡ word_count) }
-{
-    words_in(words)
-}
-
 // The gap starts of the fixed tables.
 fn gaps_in(times: &[u64]) -> [u64; FIXED]
     requires { core_time_count ≤ length times.now }
@@ -122,43 +95,23 @@ fn listed_in(words: &[u16]) -> usize
 }
 
 // The sixteen entries, the listed ones first: a loop whose length the compiler does not know keeps the
-// entries together in memory.
+// entries together in memory. Two `for`s were tried, and miss a bar of speed: a PAT of sixteen programmes takes a tenth longer.
 pub fn entries_in(times: &[u64], words: &[u16]) -> [Entry; MOST_LISTED]
     requires { (core_time_count ≤ length times.now) × (core_word_count ≤ length words.now) }
     ensures { result ≡ entries_in times.now words.now }
 {
     let mut out = [NO_ENTRY; MOST_LISTED];
     let n = listed_in(words);
-    for k in 0..n {
+    let mut k: usize = 0;
+    while k < n {
         out[k] = entry_at(times, words, k);
+        k += 1;
     }
-    for k in n..MOST_LISTED {
+    while k < MOST_LISTED {
         out[k] = entry_at(times, words, k);
+        k += 1;
     }
     out
-}
-
-// A state by value has by its types how many places its arrays have, and a run that a byte holds: a call of these shows it.
-fn sizes(since: [u64; FIXED], entries: [Entry; MOST_LISTED], half: [u16; ROOMS]) -> usize
-    ensures { (result ≡ fixed_count + most_listed + room_count) × (length since ≡ fixed_count) × (length entries ≡ most_listed) × (length half ≡ room_count) }
-{
-    FIXED + MOST_LISTED + ROOMS
-}
-
-fn in_a_byte(run: u8) -> u8
-    ensures { (result ≡ run) × (run ≤ 255) }
-{
-    run
-}
-
-pub fn typed(state: State) -> usize
-    ensures { (result ≡ fixed_count + most_listed + room_count) × Typed state }
-{
-    let since = state.core.since;
-    let entries = state.core.entries;
-    let half = state.core.half;
-    in_a_byte(state.core.run);
-    sizes(since, entries, half)
 }
 
 // The state that two arrays hold.

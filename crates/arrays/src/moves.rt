@@ -4,7 +4,7 @@ ghost use Rattle.std.specs.Prelude.{◌≡◌, ◌≤◌, ◌<◌, List, ℕ, le
 ghost use Rattle.watches.specs.Tables.{fixed_count};
 ghost use Rattle.sections.specs.Rooms.{room_count};
 ghost use Rattle.programmes.specs.Listing.{most_listed};
-ghost use Rattle.programmes.specs.Places.{place_of, half_at};
+ghost use Rattle.programmes.specs.Places.{half_at};
 ghost use Rattle.calls.specs.Cores.{with_half, with_sync, with_list};
 ghost use Rattle.calls.specs.Steps.{touched, arrived_table, arrived_programme};
 ghost use Rattle.arrays.specs.Lent.{time_count, word_count, sync_lost, sync_run, gaps_in, count_in, halves_in, core_in, times_of, words_of, core_time_count, core_word_count};

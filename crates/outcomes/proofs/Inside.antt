@@ -49,14 +49,11 @@ use Rattle.engine.proofs.clock_in.Reads as clock-in
 use Rattle.engine.proofs.packet_at.Reads as packet-at
 use Rattle.engine.proofs.clock_at.Reads as clock-at
 use Rattle.records.proofs.event_at.Reads as event-at
-use Rattle.arrays.proofs.time_count.Reads as time-count
-use Rattle.arrays.proofs.word_count.Reads as word_count
 use Rattle.arrays.proofs.state_in.Reads as state-in
 use Rattle.arrays.proofs.entry_at.Reads as entry_at
 use Rattle.arrays.proofs.entries_in.Reads as entries-in
 use Rattle.arrays.proofs.halves_in.Reads as Halves-in
 use Rattle.arrays.proofs.lay_halves.Reads as lay-halves
-use Rattle.arrays.proofs.typed.Reads as typed
 use Rattle.arrays.proofs.sync_lost.Reads as sync-lost
 use Rattle.arrays.proofs.sync_run.Reads as sync-run
 use Rattle.arrays.proofs.count_in.Reads as count-in
@@ -150,14 +147,11 @@ pub record NoSecondOutcomeInside : Type 0 where
   pub engine_clock_at : (κs : _) → OneOutcome (clock-at.Post κs) (λ r. r) (λ s. s.1.1.1.1.0.now)
   pub records_event_at : (κs : _) → OneAnswer (event-at.Post κs) (λ r. r)
   pub records_hand_over : (κs : _) → OneOutcome (hand_promise κs) (λ r. r) (λ s. s.1.1.0.now)
-  pub arrays_time_count : (κs : _) → OneAnswer (time-count.Post κs) (λ r. r)
-  pub arrays_word_count : (κs : _) → OneAnswer (word_count.Post κs) (λ r. r)
   pub arrays_state_in : (κs : _) → OneAnswer (state-in.Post κs) (λ r. r)
   pub arrays_entry_at : (κs : _) → OneAnswer (entry_at.Post κs) (λ r. r)
   pub arrays_entries_in : (κs : _) → OneAnswer (entries-in.Post κs) (λ r. r)
   pub arrays_halves_in : (κs : _) → OneAnswer (Halves-in.Post κs) (λ r. r)
   pub arrays_lay_halves : (κs : _) → OneOutcome (lay-halves.Post κs) (λ r. r) (λ s. s.0.now)
-  pub arrays_typed : (κs : _) → OneAnswer (typed.Post κs) (λ r. r)
   pub arrays_sync_lost : (κs : _) → OneAnswer (sync-lost.Post κs) (λ r. r)
   pub arrays_sync_run : (κs : _) → OneAnswer (sync-run.Post κs) (λ r. r)
   pub arrays_count_in : (κs : _) → OneAnswer (count-in.Post κs) (λ r. r)
@@ -255,14 +249,11 @@ no_second_outcome_inside =
       engine_clock_at = λ κs a r r' s s' p q. (both p.0 q.0, both p.1.laid q.1.laid);
       records_event_at = λ κs a r r' s s' p q. both p q;
       records_hand_over = λ κs a r r' s s' p q. (both p.0 q.0, both p.1 q.1);
-      arrays_time_count = λ κs a r r' s s' p q. both p.0 q.0;
-      arrays_word_count = λ κs a r r' s s' p q. both p.0 q.0;
       arrays_state_in = λ κs a r r' s s' p q. both p q;
       arrays_entry_at = λ κs a r r' s s' p q. both p q;
       arrays_entries_in = λ κs a r r' s s' p q. both p q;
       arrays_halves_in = λ κs a r r' s s' p q. both p q;
       arrays_lay_halves = λ κs a r r' s s' p q. (refl, both p.0 q.0);
-      arrays_typed = λ κs a r r' s s' p q. both p.0 q.0;
       arrays_sync_lost = λ κs a r r' s s' p q. both p q;
       arrays_sync_run = λ κs a r r' s s' p q. both p q;
       arrays_count_in = λ κs a r r' s s' p q. both p q;

@@ -32,7 +32,8 @@ use sections::MEMORY;
 use std::ops::ControlFlow;
 use watches::{FIXED, PAT_PID};
 
-// A packet at a time, its header, and the table byte of its PID.
+// A packet at a time, its header, and the table byte of its PID. What is lent to be written stays apart: tried, and the proof of a
+// struct of `&mut`s did not close without a clause on each loan.
 #[derive(Clone, Copy)]
 struct Seen<'a> {
     time: u64,

@@ -16,22 +16,25 @@ abbrev blank : List Entry
 blank = replicate most_listed no_entry
 
 pub loop-k-init : goal.loop-k-init
-loop-k-init c = filled_none _ _
+loop-k-init c = (omega arith, filled_none _ _)
 
 pub loop-k-preserved : goal.loop-k-preserved
 loop-k-preserved c =
     let loop = c.loop-k in
     let a = c.args in
     let h : loop.k < most_listed = omega (arith, c.listed_in-n.ensures) in
-    rw (loop.invariant, c.entry_at.ensures) (filled_turn (entry_in a.times.now a.words.now) loop.k blank h)
+    (omega arith, rw (loop.invariant.1, c.entry_at.ensures) (filled_turn (entry_in a.times.now a.words.now) loop.k blank h))
+
+pub loop-k-2-init : goal.loop-k-2-init
+loop-k-2-init c = (omega (arith, c.listed_in-n.ensures), c.loop-k.invariant.1)
 
 pub loop-k-2-preserved : goal.loop-k-2-preserved
 loop-k-2-preserved c =
     let loop = c.loop-k-2 in
     let a = c.args in
-    rw (loop.invariant, c.entry_at-in-loop-k-2.ensures) (filled_turn (entry_in a.times.now a.words.now) loop.k blank (omega arith))
+    (omega arith, rw (loop.invariant.1, c.entry_at-in-loop-k-2.ensures) (filled_turn (entry_in a.times.now a.words.now) loop.k blank (omega arith)))
 
 pub returns : goal.returns
 returns c =
-    let k : c.loop-k-2.k ≡ most_listed = omega (arith, c.listed_in-n.ensures) in
-    c.loop-k-2.invariant ∙ rw k (filled_all _ most_listed blank (omega arith))
+    let k : c.loop-k-2.k ≡ most_listed = omega arith in
+    c.loop-k-2.invariant.1 ∙ rw k (filled_all _ most_listed blank (omega arith))
