@@ -14,7 +14,7 @@ use Rattle.sections.specs.Rooms.{room_count}
 use Rattle.programmes.specs.Listing.{most_listed}
 use Rattle.calls.specs.declared.Core.{Core}
 use Rattle.arrays.specs.Lent.{time_count, word_count, lost_word, lost_in, run_in, entry_in, core_in, gaps_at, sinces_at, core_time_count, pids_at, halves_at, lost_at, run_at, count_at, core_word_count, numbers_at}
-use Rattle.arrays.specs.inner.Kept.{Sized, LatestKept, SyncKept, Moved, SyncTold}
+use Rattle.arrays.specs.inner.Kept.{LatestKept, SyncKept, Moved, SyncTold}
 use Rattle.arrays.proofs.Tabled.{length_map}
 use Rattle.arrays.proofs.Back.{lost_back, run_back}
 use Rattle.arrays.proofs.Stores.{entry_at}
@@ -40,15 +40,12 @@ told_then h k =
       run = k.run ∙ h.run ∙ ap run_in (sym k.run);
     }
 
-pub moved_none : {times words : List ℕ} → Sized times words → Moved times words times words
-moved_none z = record { times = latest_same z.long; words = sync_same z.wide }
+pub moved_none : {times words : List ℕ} → length times ≡ time_count → length words ≡ word_count → Moved times words times words
+moved_none long wide = record { times = latest_same long; words = sync_same wide }
 
-module _ {times words times' words' : List ℕ} where
-  pub moved_sized : Moved times words times' words' → Sized times' words'
-  moved_sized m = record { long = m.times.long; wide = m.words.wide }
-
-  pub moved_then : {times'' words'' : List ℕ} → Moved times words times' words' → Moved times' words' times'' words'' → Moved times words times'' words''
-  moved_then h k = record { times = latest_then h.times k.times; words = sync_then h.words k.words }
+pub moved_then : {times words times' words' times'' words'' : List ℕ}
+    → Moved times words times' words' → Moved times' words' times'' words'' → Moved times words times'' words''
+moved_then h k = record { times = latest_then h.times k.times; words = sync_then h.words k.words }
 
 -- WHAT IS LAID: times behind the first; words before those that tell sync, and behind them
 pub latest_kept : (times : List ℕ) (i : ℕ) (vs : List ℕ) → length times ≡ time_count → 0 < i → LatestKept times (sets times i vs)

@@ -9,7 +9,7 @@ ghost use Rattle.std.specs.Prelude.{◌≡◌, ◌+◌, ◌<◌, ◌≤◌, [], 
 ghost use Rattle.std.proofs.lemmas.List.Edits.{sets};
 ghost use Rattle.sections.specs.Rooms.{room_count};
 ghost use Rattle.programmes.specs.Listing.{most_listed};
-ghost use Rattle.arrays.specs.Lent.{time_count, word_count, count_word, gaps_in, halves_in, entry_in, entries_in, times_of, words_of, state_in, sinces_at, numbers_at, pids_at, halves_at, core_time_count, core_word_count};
+ghost use Rattle.arrays.specs.Lent.{count_word, gaps_in, halves_in, entry_in, entries_in, times_of, words_of, state_in, sinces_at, numbers_at, pids_at, halves_at, core_time_count, core_word_count};
 
 use calls::{Core, State};
 pub use moves::{
@@ -140,16 +140,14 @@ fn lay<T: Copy, const N: usize>(list: &mut [T], at: usize, values: [T; N])
 }
 
 // The gap starts of the entries, laid into the times.
-fn lay_sinces(times: &mut [u64], entries: [Entry; MOST_LISTED])
-    requires { length times.old ≡ time_count }
+fn lay_sinces(times: &mut [u64; TIMES], entries: [Entry; MOST_LISTED])
     ensures { times.new ≡ sets times.old sinces_at (map (λ e. e.since) entries) }
 {
     lay(times, SINCES, entries.map(|e| e.since));
 }
 
 // Their programme numbers and PIDs, laid into the words.
-fn lay_pairs(words: &mut [u16], entries: [Entry; MOST_LISTED])
-    requires { length words.old ≡ word_count }
+fn lay_pairs(words: &mut [u16; WORDS], entries: [Entry; MOST_LISTED])
     ensures { words.new ≡ sets (sets words.old numbers_at (map (λ e. e.number) entries)) pids_at (map (λ e. e.pid) entries) }
 {
     lay(words, NUMBERS, entries.map(|e| e.number));
@@ -157,8 +155,7 @@ fn lay_pairs(words: &mut [u16], entries: [Entry; MOST_LISTED])
 }
 
 // The half-built lengths.
-pub fn lay_halves(words: &mut [u16], half: [u16; ROOMS])
-    requires { length words.old ≡ word_count }
+pub fn lay_halves(words: &mut [u16; WORDS], half: [u16; ROOMS])
     ensures { (words.new ≡ sets words.old halves_at half) × (length half ≡ room_count) }
 {
     lay(words, HALVES, half);

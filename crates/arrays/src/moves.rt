@@ -1,5 +1,5 @@
-// What a call reads of the lent arrays, and what it moves in them, one thing at a time. The arrays stay slices here: what may
-// not change is that a read asks for the core's numbers or more, and that `judge_packet` and `take_payload` hand on slices.
+// What a call reads of the lent arrays, and what it moves in them, one thing at a time. What only reads takes slices: a read asks
+// for the core's numbers or more, and may not ask for as many as an array type has.
 ghost use Rattle.std.specs.Prelude.{◌≡◌, ◌≤◌, ◌<◌, List, ℕ, length, set, replicate, eqb, position};
 ghost use Rattle.watches.specs.Tables.{fixed_count};
 ghost use Rattle.sections.specs.Rooms.{room_count};
@@ -7,11 +7,11 @@ ghost use Rattle.programmes.specs.Listing.{most_listed};
 ghost use Rattle.programmes.specs.Places.{half_at};
 ghost use Rattle.calls.specs.Cores.{with_half, with_sync, with_list};
 ghost use Rattle.calls.specs.Steps.{touched, arrived_table, arrived_programme};
-ghost use Rattle.arrays.specs.Lent.{time_count, word_count, sync_lost, sync_run, gaps_in, count_in, halves_in, core_in, times_of, words_of, core_time_count, core_word_count};
+ghost use Rattle.arrays.specs.Lent.{sync_lost, sync_run, gaps_in, count_in, halves_in, core_in, times_of, words_of, core_time_count, core_word_count};
 ghost use Rattle.arrays.specs.inner.Kept.{listed_in, place_among};
 ghost use Rattle.arrays.specs.inner.Kept.{LatestKept, SyncKept, Moved, SyncTold};
 
-use crate::{COUNT, GAPS, HALVES, LATEST, LOST, PIDS, RUN, SINCES};
+use crate::{COUNT, GAPS, HALVES, LATEST, LOST, PIDS, RUN, SINCES, TIMES, WORDS};
 use programmes::MOST_LISTED;
 use sections::ROOMS;
 use watches::Entry;
@@ -80,8 +80,7 @@ pub fn place_in(words: &[u16], pid: u16) -> Option<usize>
 }
 
 // Sync as step 1 leaves it.
-pub fn set_sync(words: &mut [u16], lost: bool, run: u8)
-    requires { length words.old ≡ word_count }
+pub fn set_sync(words: &mut [u16; WORDS], lost: bool, run: u8)
     ensures { ((times : List ℕ) → core_in times words.new ≡ with_sync lost run (core_in times words.old))
         × SyncTold words.new }
 {
@@ -90,8 +89,8 @@ pub fn set_sync(words: &mut [u16], lost: bool, run: u8)
 }
 
 // The half-built length of a room, set anew.
-pub fn set_half(words: &mut [u16], room: usize, n: u16)
-    requires { (length words.old ≡ word_count) × (room < room_count) }
+pub fn set_half(words: &mut [u16; WORDS], room: usize, n: u16)
+    requires { room < room_count }
     ensures { ((times : List ℕ) → core_in times words.new ≡ with_half (set (halves_in words.old) room n) (core_in times words.old))
         × SyncKept words.old words.new }
 {
@@ -99,8 +98,7 @@ pub fn set_half(words: &mut [u16], room: usize, n: u16)
 }
 
 // All half-built sections dropped.
-pub fn drop_all(words: &mut [u16])
-    requires { length words.old ≡ word_count }
+pub fn drop_all(words: &mut [u16; WORDS])
     ensures { ((times : List ℕ) → core_in times words.new ≡ with_half (replicate room_count 0) (core_in times words.old))
         × SyncKept words.old words.new }
 {
@@ -108,8 +106,8 @@ pub fn drop_all(words: &mut [u16])
 }
 
 // A good section of a fixed table ends its gap.
-pub fn end_gap(times: &mut [u64], room: usize, time: u64)
-    requires { (length times.old ≡ time_count) × (room < fixed_count) }
+pub fn end_gap(times: &mut [u64; TIMES], room: usize, time: u64)
+    requires { room < fixed_count }
     ensures { ((words : List ℕ) → core_in times.new words ≡ arrived_table time room (core_in times.old words))
         × LatestKept times.old times.new }
 {
@@ -127,8 +125,8 @@ fn since_after(e: Entry, number: u16, pid: u16, time: u64) -> u64
 }
 
 // A good section of a pair of number and PID ends its gap.
-pub fn end_pair(times: &mut [u64], words: &[u16], number: u16, pid: u16, time: u64)
-    requires { (length times.old ≡ time_count) × (length words.now ≡ word_count) × (count_in words.now ≤ most_listed) }
+pub fn end_pair(times: &mut [u64; TIMES], words: &[u16; WORDS], number: u16, pid: u16, time: u64)
+    requires { count_in words.now ≤ most_listed }
     ensures { (core_in times.new words.now ≡ arrived_programme number pid time (core_in times.old words.now))
         × LatestKept times.old times.new }
 {
@@ -139,8 +137,13 @@ pub fn end_pair(times: &mut [u64], words: &[u16], number: u16, pid: u16, time: u
 }
 
 // A list: sixteen entries, of which the first `count` are listed.
-pub fn lay_list(times: &mut [u64], words: &mut [u16], entries: [Entry; MOST_LISTED], count: usize)
-    requires { (length times.old ≡ time_count) × (length words.old ≡ word_count) × (count ≤ most_listed) }
+pub fn lay_list(
+    times: &mut [u64; TIMES],
+    words: &mut [u16; WORDS],
+    entries: [Entry; MOST_LISTED],
+    count: usize,
+)
+    requires { count ≤ most_listed }
     ensures { (core_in times.new words.new ≡ with_list count entries (core_in times.old words.old))
         × Moved times.old words.old times.new words.new }
 {
@@ -150,8 +153,8 @@ pub fn lay_list(times: &mut [u64], words: &mut [u16], entries: [Entry; MOST_LIST
 }
 
 // The arrays at the end of a call that moves nothing else: its time is the latest, and a sync that is lost is told by a 1.
-pub fn settle(times: &mut [u64], words: &mut [u16], time: u64)
-    requires { (length times.old ≡ time_count) × (length words.old ≡ word_count) × (count_in words.old ≤ most_listed) × (sync_run words.old ≤ 4) }
+pub fn settle(times: &mut [u64; TIMES], words: &mut [u16; WORDS], time: u64)
+    requires { (count_in words.old ≤ most_listed) × (sync_run words.old ≤ 4) }
     ensures { (times.new ≡ times_of (record { latest = time; core = core_in times.old words.old }))
         × (words.new ≡ words_of (record { latest = time; core = core_in times.old words.old })) }
 {

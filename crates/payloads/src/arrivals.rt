@@ -10,10 +10,11 @@ ghost use Rattle.programmes.specs.Places.{half_at, moved_halves, moved_bytes};
 ghost use Rattle.calls.specs.Cores.{with_half};
 ghost use Rattle.calls.specs.Steps.{arrival, new_list, relisted, arrived_in};
 ghost use Rattle.arrays.specs.Lent.{word_count, count_in, halves_in, core_in};
-ghost use Rattle.arrays.specs.inner.Kept.{Sized, SyncKept, Moved};
+ghost use Rattle.arrays.specs.inner.Kept.{SyncKept, Moved};
 ghost use Rattle.payloads.specs.inner.Taking.{held};
 ghost use Rattle.payloads.specs.inner.Parts.{end_acts, left, Shown, Fit};
 
+use arrays::{TIMES, WORDS};
 use events::{BAD, PAT_ERROR};
 use sections::{MEMORY, Outcome, PAT_ROOM, Stage};
 use watches::{Entry, FIXED};
@@ -29,8 +30,8 @@ pub(crate) struct Arrival {
 }
 
 // What a section step of a room says, by the bytes there.
-fn outcome_in(memory: &[u8], a: Arrival, size: usize, stage: Stage) -> Outcome
-    requires { (length memory.now ≡ memory_size) × (a.room < room_count) × (room_base a.room + size ≤ memory_size) }
+fn outcome_in(memory: &[u8; MEMORY], a: Arrival, size: usize, stage: Stage) -> Outcome
+    requires { (a.room < room_count) × (room_base a.room + size ≤ memory_size) }
     ensures { result ≡ step_outcome a.room a.pid stage (half_built memory.now a.room size) }
 {
     let base = sections::room_base(a.room);
@@ -38,8 +39,8 @@ fn outcome_in(memory: &[u8], a: Arrival, size: usize, stage: Stage) -> Outcome
 }
 
 // Half-built sections stay with their PIDs as a list is replaced; mostly there are none.
-fn keep_sections(words: &mut [u16], memory: &mut [u8; MEMORY], old: &[Entry], new: &[Entry])
-    requires words_len { (length words.old ≡ word_count) × (length old.now ≤ most_listed) × (length new.now ≤ most_listed) }
+fn keep_sections(words: &mut [u16; WORDS], memory: &mut [u8; MEMORY], old: &[Entry], new: &[Entry])
+    requires few { (length old.now ≤ most_listed) × (length new.now ≤ most_listed) }
     requires by_index { (k : ℕ) → k < most_listed → half_at (halves_in words.old) (room_of_place k) ≤ 1024 }
     ensures { ((times : List ℕ) → core_in times words.new ≡ with_half (moved_halves old.now new.now (halves_in words.old)) (core_in times words.old))
         × (memory.new ≡ moved_bytes old.now new.now (halves_in words.old) memory.old)
@@ -55,13 +56,13 @@ fn keep_sections(words: &mut [u16], memory: &mut [u8; MEMORY], old: &[Entry], ne
 
 // A good PAT section of `size` bytes: the list is the one in it. Whether it is bad.
 fn relist(
-    times: &mut [u64],
-    words: &mut [u16],
+    times: &mut [u64; TIMES],
+    words: &mut [u16; WORDS],
     memory: &mut [u8; MEMORY],
     size: usize,
     time: u64,
 ) -> bool
-    requires sized { Sized times.old words.old × (count_in words.old ≤ most_listed) × (size ≤ memory_size) }
+    requires few { (count_in words.old ≤ most_listed) × (size ≤ memory_size) }
     requires by_index { (k : ℕ) → k < most_listed → half_at (halves_in words.old) (room_of_place k) ≤ 1024 }
     ensures words_after { (core_in times.new words.new ≡ (relisted time (half_built memory.old pat_room size) (held (core_in times.old words.old) memory.old)).core)
         × (memory.new ≡ (relisted time (half_built memory.old pat_room size) (held (core_in times.old words.old) memory.old)).memory)
@@ -80,14 +81,14 @@ fn relist(
 // A good section, with its table_id_extension, ends the gap of its table; that of the PAT has the list. Whether that
 // is bad.
 fn arrive(
-    times: &mut [u64],
-    words: &mut [u16],
+    times: &mut [u64; TIMES],
+    words: &mut [u16; WORDS],
     memory: &mut [u8; MEMORY],
     a: Arrival,
     extension: u16,
     size: usize,
 ) -> bool
-    requires sized { Sized times.old words.old × (count_in words.old ≤ most_listed) × (size ≤ memory_size) × (a.room < room_count) }
+    requires few { (count_in words.old ≤ most_listed) × (size ≤ memory_size) × (a.room < room_count) }
     requires by_index { (k : ℕ) → k < most_listed → half_at (halves_in words.old) (room_of_place k) ≤ 1024 }
     ensures words_after { (core_in times.new words.new ≡ (arrived_in (arrival a.time a.room a.pid) extension (half_built memory.old a.room size) (held (core_in times.old words.old) memory.old)).core)
         × (memory.new ≡ (arrived_in (arrival a.time a.room a.pid) extension (half_built memory.old a.room size) (held (core_in times.old words.old) memory.old)).memory)
@@ -120,8 +121,8 @@ fn put_list(numbers: &mut [u64], n: usize, a: Arrival, bad: bool) -> usize
 // A section of `size` bytes at its end acts: its event is laid at the place n, and a good one ends a gap.
 // Anything but a good one leaves before list or watch is touched.
 pub(crate) fn act(
-    times: &mut [u64],
-    words: &mut [u16],
+    times: &mut [u64; TIMES],
+    words: &mut [u16; WORDS],
     memory: &mut [u8; MEMORY],
     a: Arrival,
     stage: Stage,
@@ -129,7 +130,7 @@ pub(crate) fn act(
     numbers: &mut [u64],
     n: usize,
 ) -> usize
-    requires sized { Sized times.old words.old × Fit (core_in times.old words.old) memory.old numbers.old }
+    requires fit { Fit (core_in times.old words.old) memory.old numbers.old }
     requires room_lt_room_count { (a.room < room_count) × (room_base a.room + size ≤ memory_size) × (n < least_capacity) }
     ensures shown { Shown (end_acts a.time a.room a.pid stage (half_built memory.old a.room size) (held (core_in times.old words.old) memory.old))
         n numbers.old numbers.new memory.new (left (core_in times.new words.new) result) }

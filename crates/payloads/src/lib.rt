@@ -13,10 +13,11 @@ ghost use Rattle.sections.specs.Building.{going_on, following, fed, begun_job};
 ghost use Rattle.programmes.specs.Listing.{most_listed};
 ghost use Rattle.calls.specs.Steps.{arrival, sections_taken};
 ghost use Rattle.arrays.specs.Lent.{count_in, core_in};
-ghost use Rattle.arrays.specs.inner.Kept.{Sized, Moved};
+ghost use Rattle.arrays.specs.inner.Kept.{Moved};
 ghost use Rattle.payloads.specs.inner.Taking.{held, Takable};
 ghost use Rattle.payloads.specs.inner.Parts.{came_to, is_bad, left, finished, Shown, went, Fit, Gone};
 
+use arrays::{TIMES, WORDS};
 use arrivals::Arrival;
 use sections::{MEMORY, Stage};
 
@@ -46,15 +47,15 @@ fn is_bad(g: Stage) -> bool
 // New sections, back to back in the bytes s, until stuffing or the end. No `for`: each section says how many bytes it
 // took.
 fn follow(
-    times: &mut [u64],
-    words: &mut [u16],
+    times: &mut [u64; TIMES],
+    words: &mut [u16; WORDS],
     memory: &mut [u8; MEMORY],
     a: Arrival,
     s: &[u8],
     numbers: &mut [u64],
     n0: usize,
 ) -> Built
-    requires sized { Sized times.old words.old × Fit (core_in times.old words.old) memory.old numbers.old }
+    requires fit { Fit (core_in times.old words.old) memory.old numbers.old }
     requires room_lt_room_count { (a.room < room_count) × (length s.now ≤ 183) × (n0 + 61 ≤ least_capacity) }
     ensures shown { Shown (came_to a.time a.room a.pid (fed following a.room (begun_job memory.old 0) s.now) (held (core_in times.old words.old) memory.old))
         n0 numbers.old numbers.new memory.new (finished a.room result.half (core_in times.new words.new) result.n) }
@@ -81,8 +82,8 @@ fn follow(
 
 // A half-built section goes on with the bytes s; those after its end are ignored.
 fn resume(
-    times: &mut [u64],
-    words: &mut [u16],
+    times: &mut [u64; TIMES],
+    words: &mut [u16; WORDS],
     memory: &mut [u8; MEMORY],
     a: Arrival,
     half: usize,
@@ -90,7 +91,7 @@ fn resume(
     numbers: &mut [u64],
     n: usize,
 ) -> Resumed
-    requires sized { Sized times.old words.old × Fit (core_in times.old words.old) memory.old numbers.old }
+    requires fit { Fit (core_in times.old words.old) memory.old numbers.old }
     requires room_lt_room_count { (a.room < room_count) × (length s.now ≤ 184) × (n < least_capacity) × (is_more (stage_of (greatest_length a.room) (half_built memory.old a.room half)) ≡ true) }
     ensures gone { Gone a.time a.room a.pid (fed going_on a.room (begun_job memory.old half) s.now) (core_in times.old words.old)
         n numbers.old numbers.new memory.new (went (core_in times.new words.new) result) }
@@ -121,8 +122,8 @@ fn resume(
 
 // A payload's bytes go to the sections of its PID; their events are laid from the place n on.
 fn build(
-    times: &mut [u64],
-    words: &mut [u16],
+    times: &mut [u64; TIMES],
+    words: &mut [u16; WORDS],
     memory: &mut [u8; MEMORY],
     a: Arrival,
     start: bool,
@@ -130,7 +131,7 @@ fn build(
     numbers: &mut [u64],
     n: usize,
 ) -> Built
-    requires { Sized times.old words.old × Takable (core_in times.old words.old) memory.old a.room payload.now n numbers.old }
+    requires { Takable (core_in times.old words.old) memory.old a.room payload.now n numbers.old }
     ensures shown { Shown (sections_taken (arrival a.time a.room a.pid) start payload.now (held (core_in times.old words.old) memory.old))
         n numbers.old numbers.new memory.new (finished a.room result.half (core_in times.new words.new) result.n) }
     ensures moved { Moved times.old words.old times.new words.new × (result.n ≤ n + 62) × (result.half < 65536) }
@@ -156,8 +157,8 @@ fn build(
 
 // A payload of a PID is taken into the room of its sections; their events are laid from the place n on.
 pub fn take_payload(
-    times: &mut [u64],
-    words: &mut [u16],
+    times: &mut [u64; TIMES],
+    words: &mut [u16; WORDS],
     memory: &mut [u8; MEMORY],
     room: usize,
     pid: u16,
@@ -167,7 +168,7 @@ pub fn take_payload(
     numbers: &mut [u64],
     n: usize,
 ) -> usize
-    requires { Sized times.old words.old × Takable (core_in times.old words.old) memory.old room payload.now n numbers.old }
+    requires { Takable (core_in times.old words.old) memory.old room payload.now n numbers.old }
     ensures shown { Shown (sections_taken (arrival time room pid) start payload.now (held (core_in times.old words.old) memory.old))
         n numbers.old numbers.new memory.new (left (core_in times.new words.new) result) }
     ensures moved { Moved times.old words.old times.new words.new × (result ≤ n + 62) }

@@ -7,12 +7,12 @@ use lib.ListN.{length-drop}
 use Rattle.lists.proofs.Turns.{rest_all}
 use Rattle.sections.proofs.Jobs.{empty_more}
 use Rattle.payloads.proofs.Sections.{new_section, reached_begins, stuffing_ends, bytes_end, section_fit, section_inside, section_three, section_leaves, section_waits, section_follows, section_stops}
-use Rattle.arrays.proofs.Kept.{moved_none, moved_sized, moved_then}
+use Rattle.arrays.proofs.Kept.{moved_none, moved_then}
 use Rattle.payloads.proofs.follow.Goals as goal
 
 pub loop-at-init : goal.loop-at-init
 loop-at-init c =
-    record { inside = omega arith; moved = moved_none c.requires.sized.0; fit = c.requires.sized.1; few = omega arith; same = refl; reached = reached_begins _ _ _ _ _ _ _ _ }
+    record { inside = omega arith; moved = moved_none (omega arith) (omega arith); fit = c.requires.fit; few = omega arith; same = refl; reached = reached_begins _ _ _ _ _ _ _ _ }
 
 pub returns-then-s-at-clause-shown : goal.returns-then-s-at-clause-shown
 returns-then-s-at-clause-shown c =
@@ -32,7 +32,7 @@ pub act-n-requires : goal.act-n-requires
 act-n-requires c =
     let loop = c.loop-at in
     let q = new_section c.requires.room_lt_room_count.0 loop.invariant.fit c.lay-l.ensures.0 c.lay-l.ensures.1 c.loop-at-test.true c.if-s-at.false in
-    record { sized = (moved_sized loop.invariant.moved, section_fit q); room_lt_room_count = (q.room, section_inside q, omega (arith, loop.invariant.few, q.here, c.requires.room_lt_room_count)) }
+    record { fit = section_fit q; room_lt_room_count = (q.room, section_inside q, omega (arith, loop.invariant.few, q.here, c.requires.room_lt_room_count)) }
 
 pub returns-then-is_bad-clause-shown : goal.returns-then-is_bad-clause-shown
 returns-then-is_bad-clause-shown c =
