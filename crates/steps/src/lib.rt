@@ -18,12 +18,13 @@ ghost use Rattle.programmes.specs.Listing.{most_listed};
 ghost use Rattle.programmes.specs.Places.{is_listed};
 ghost use Rattle.calls.specs.Cores.{fixed_room, list_room, room_for, with_half};
 ghost use Rattle.calls.specs.Steps.{scrambling_events, step1, step2, step4};
-ghost use Rattle.arrays.specs.Lent.{word_count, count_in, halves_in, core_in, core_word_count};
+ghost use Rattle.arrays.specs.Lent.{count_in, halves_in, core_in};
 ghost use Rattle.arrays.specs.inner.Kept.{listed_in, within};
-ghost use Rattle.arrays.specs.inner.Kept.{Sized, LatestKept, SyncKept, Moved, SyncTold};
+ghost use Rattle.arrays.specs.inner.Kept.{LatestKept, SyncKept, Moved, SyncTold};
 ghost use Rattle.payloads.specs.inner.Taking.{held};
 ghost use Rattle.steps.specs.inner.Judging.{Ready, Judgeable, Done, fault_events, coursed};
 
+use arrays::{TIMES, WORDS};
 use continuity::Counted;
 use events::{CONTINUITY_ERROR, NO_CAUSE, PAT_ERROR, PMT_ERROR, SCRAMBLED, TRANSPORT_ERROR};
 use header::{Header, SYNC_BYTE};
@@ -55,32 +56,32 @@ fn fixed_room(pid: u16) -> Option<usize>
 }
 
 // The room of a PID by its first place in the list; of any other no section is built.
-fn list_room(words: &[u16], pid: u16) -> Option<usize>
-    requires { (core_word_count ≤ length words.now) × (count_in words.now ≤ most_listed) }
+fn list_room(words: &[u16; WORDS], pid: u16) -> Option<usize>
+    requires { count_in words.now ≤ most_listed }
     ensures { (times : List ℕ) → result ≡ within room_count (list_room pid (listed_in times words.now)) }
 {
     arrays::place_in(words, pid).map(|place| FIXED + place)
 }
 
 // Whether a PID is that of a listed programme.
-fn is_listed(words: &[u16], pid: u16) -> bool
-    requires { (core_word_count ≤ length words.now) × (count_in words.now ≤ most_listed) }
+fn is_listed(words: &[u16; WORDS], pid: u16) -> bool
+    requires { count_in words.now ≤ most_listed }
     ensures { (times : List ℕ) → result ≡ is_listed pid (listed_in times words.now) }
 {
     arrays::place_in(words, pid).is_some()
 }
 
 // The room where sections of a PID are built, if they are.
-fn room_for(words: &[u16], pid: u16) -> Option<usize>
-    requires { (core_word_count ≤ length words.now) × (count_in words.now ≤ most_listed) }
+fn room_for(words: &[u16; WORDS], pid: u16) -> Option<usize>
+    requires { count_in words.now ≤ most_listed }
     ensures { (times : List ℕ) → result ≡ within room_count (room_for (core_in times words.now) pid) }
 {
     fixed_room(pid).or_else(|| list_room(words, pid))
 }
 
 // The half-built section of a room, if it is one, dropped.
-fn drop_room(words: &mut [u16], room: Option<usize>)
-    requires { (length words.old ≡ word_count) × ForSome room (λ r. r < room_count) }
+fn drop_room(words: &mut [u16; WORDS], room: Option<usize>)
+    requires { ForSome room (λ r. r < room_count) }
     ensures { ((times : List ℕ) (r : ℕ) → room ≡ within room_count r → core_in times words.new ≡ with_half (set (halves_in words.old) r 0) (core_in times words.old))
         × SyncKept words.old words.new }
 {
@@ -90,8 +91,8 @@ fn drop_room(words: &mut [u16], room: Option<usize>)
 }
 
 // The half-built section of a room dropped, unless it is kept.
-fn keep_room(words: &mut [u16], room: Option<usize>, keep: bool)
-    requires { (length words.old ≡ word_count) × ForSome room (λ r. r < room_count) }
+fn keep_room(words: &mut [u16; WORDS], room: Option<usize>, keep: bool)
+    requires { ForSome room (λ r. r < room_count) }
     ensures { ((times : List ℕ) (r : ℕ) → room ≡ within room_count r → core_in times words.new ≡ cond keep (core_in times words.old) (with_half (set (halves_in words.old) r 0) (core_in times words.old)))
         × SyncKept words.old words.new }
 {
@@ -101,8 +102,14 @@ fn keep_room(words: &mut [u16], room: Option<usize>, keep: bool)
 }
 
 // Step 5 on a packet that is scrambled: its event, if it has one.
-fn judge_scrambled(words: &[u16], time: u64, pid: u16, numbers: &mut [u64], n: usize) -> usize
-    requires { (length words.now ≡ word_count) × (count_in words.now ≤ most_listed) × (n < least_capacity) × (number_capacity ≤ length numbers.old) }
+fn judge_scrambled(
+    words: &[u16; WORDS],
+    time: u64,
+    pid: u16,
+    numbers: &mut [u64],
+    n: usize,
+) -> usize
+    requires { (count_in words.now ≤ most_listed) × (n < least_capacity) × (number_capacity ≤ length numbers.old) }
     ensures { ((times : List ℕ) → (result ≡ n + length (scrambling_events time (core_in times words.now) pid))
         × (numbers.new ≡ events_laid numbers.old n (scrambling_events time (core_in times words.now) pid)))
         × (result ≤ n + 1) }
@@ -133,8 +140,8 @@ fn tell_continuity(event: bool, time: u64, pid: u16, numbers: &mut [u64], n: usi
 // packet from its payload's place on is handed to section building, if it is. The counter table stays as step 4 left it,
 // whatever it is.
 fn take_course(
-    times: &mut [u64],
-    words: &mut [u16],
+    times: &mut [u64; TIMES],
+    words: &mut [u16; WORDS],
     seen: Seen,
     room: Option<usize>,
     j: Counted,
@@ -142,7 +149,7 @@ fn take_course(
     numbers: &mut [u64],
     n: usize,
 ) -> usize
-    requires sized { Sized times.old words.old × Ready (core_in times.old words.old) memory.old seen.packet.now numbers.old n 62 }
+    requires ready { Ready (core_in times.old words.old) memory.old seen.packet.now numbers.old n 62 }
     requires h_value { (seen.header ≡ header_of seen.packet.now) × ForSome room (λ r. r < room_count) }
     ensures by_index { (cs : List ℕ) (r : ℕ) → room ≡ within room_count r
         → Done (coursed seen.entry.time seen.entry.packet.now r j.keep (j.take && ltb r room_count) cs (held (core_in times.old words.old) memory.old)) 62
@@ -173,15 +180,15 @@ fn take_course(
 
 // Steps 4 and 5, by the table byte of the packet's PID. `continuity::judge` is step 4; what it leaves is acted on here.
 fn judge_counter(
-    times: &mut [u64],
-    words: &mut [u16],
+    times: &mut [u64; TIMES],
+    words: &mut [u16; WORDS],
     seen: Seen,
     counters: &mut [u8],
     memory: &mut [u8; MEMORY],
     numbers: &mut [u64],
     n: usize,
 ) -> usize
-    requires sized { Sized times.old words.old × Ready (core_in times.old words.old) memory.old seen.packet.now numbers.old n 63 }
+    requires ready { Ready (core_in times.old words.old) memory.old seen.packet.now numbers.old n 63 }
     requires read_off { ReadOff seen.packet.now counters.old seen.header seen.byte × (seen.header.pid < length counters.old) }
     ensures done { Done (step4 seen.entry.time seen.entry.packet.now counters.old (held (core_in times.old words.old) memory.old)) 63
         (core_in times.new words.new) counters.new memory.new numbers.old n numbers.new result }
@@ -203,15 +210,15 @@ fn judge_counter(
 
 // Steps 2 and 3, and what follows them.
 fn judge_header(
-    times: &mut [u64],
-    words: &mut [u16],
+    times: &mut [u64; TIMES],
+    words: &mut [u16; WORDS],
     seen: Seen,
     counters: &mut [u8],
     memory: &mut [u8; MEMORY],
     numbers: &mut [u64],
     n: usize,
 ) -> usize
-    requires sized { Sized times.old words.old × Ready (core_in times.old words.old) memory.old seen.packet.now numbers.old n 63 }
+    requires ready { Ready (core_in times.old words.old) memory.old seen.packet.now numbers.old n 63 }
     requires read_off { ReadOff seen.packet.now counters.old seen.header seen.byte × (seen.header.pid < length counters.old) }
     ensures done { Done (step2 seen.entry.time seen.entry.packet.now counters.old (held (core_in times.old words.old) memory.old)) 63
         (core_in times.new words.new) counters.new memory.new numbers.old n numbers.new result }
@@ -229,8 +236,8 @@ fn judge_header(
 
 // A packet at a time, its header and the table byte of its PID: steps 1 to 5. Its events are laid from the place n on.
 pub fn judge_packet(
-    times: &mut [u64],
-    words: &mut [u16],
+    times: &mut [u64; TIMES],
+    words: &mut [u16; WORDS],
     time: u64,
     packet: &[u8],
     h: Header,
@@ -240,7 +247,7 @@ pub fn judge_packet(
     numbers: &mut [u64],
     n: usize,
 ) -> usize
-    requires sized { Sized times.old words.old × Judgeable (core_in times.old words.old) packet.now counters.old memory.old numbers.old n }
+    requires judgeable { Judgeable (core_in times.old words.old) packet.now counters.old memory.old numbers.old n }
     requires read_off { ReadOff packet.now counters.old h byte × (h.pid < length counters.old) }
     ensures done { Done (step1 time packet.now counters.old (held (core_in times.old words.old) memory.old)) 65
         (core_in times.new words.new) counters.new memory.new numbers.old n numbers.new result }

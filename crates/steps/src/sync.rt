@@ -3,23 +3,24 @@
 ghost use Rattle.std.specs.Prelude.{◌≡◌, List, ℕ, ◌+◌, ◌≤◌, length};
 ghost use Rattle.events.specs.Capacity.{least_capacity, number_capacity};
 ghost use Rattle.calls.specs.Sync.{synced_of, in_sync, while_lost};
-ghost use Rattle.arrays.specs.Lent.{word_count, sync_run, core_in};
+ghost use Rattle.arrays.specs.Lent.{sync_run, core_in};
 ghost use Rattle.arrays.specs.inner.Kept.{SyncTold};
 ghost use Rattle.steps.specs.inner.Judging.{CaughtAs, goes_on, reached};
 
+use arrays::WORDS;
 use events::{NO_CAUSE, SYNC_BYTE_ERROR, SYNC_LOSS};
 use std::ops::ControlFlow;
 
 // Step 1 in sync.
 fn judge_in_sync(
-    words: &mut [u16],
+    words: &mut [u16; WORDS],
     right: bool,
     time: u64,
     pid: u16,
     numbers: &mut [u64],
     n: usize,
 ) -> ControlFlow<usize, usize>
-    requires { (length words.old ≡ word_count) × (n + 2 ≤ least_capacity) × (number_capacity ≤ length numbers.old) }
+    requires { (n + 2 ≤ least_capacity) × (number_capacity ≤ length numbers.old) }
     ensures { ((times : List ℕ) → CaughtAs (in_sync right (core_in times words.old)) time pid (core_in times words.new) (goes_on result) numbers.old n numbers.new (reached result))
         × SyncTold words.new }
 {
@@ -38,8 +39,8 @@ fn judge_in_sync(
 }
 
 // Step 1 while sync is lost: no events.
-fn judge_lost(words: &mut [u16], right: bool) -> bool
-    requires { (length words.old ≡ word_count) × (sync_run words.old ≤ 4) }
+fn judge_lost(words: &mut [u16; WORDS], right: bool) -> bool
+    requires { sync_run words.old ≤ 4 }
     ensures { ((times : List ℕ) → (core_in times words.new ≡ (while_lost right (core_in times words.old)).core) × (result ≡ (while_lost right (core_in times words.old)).further))
         × SyncTold words.new }
 {
@@ -58,14 +59,14 @@ fn judge_lost(words: &mut [u16], right: bool) -> bool
 
 // Step 1.
 pub(crate) fn judge_sync(
-    words: &mut [u16],
+    words: &mut [u16; WORDS],
     right: bool,
     time: u64,
     pid: u16,
     numbers: &mut [u64],
     n: usize,
 ) -> ControlFlow<usize, usize>
-    requires { (length words.old ≡ word_count) × (n + 2 ≤ least_capacity) × (number_capacity ≤ length numbers.old) × (sync_run words.old ≤ 4) }
+    requires { (n + 2 ≤ least_capacity) × (number_capacity ≤ length numbers.old) × (sync_run words.old ≤ 4) }
     ensures { ((times : List ℕ) → CaughtAs (synced_of right (core_in times words.old)) time pid (core_in times words.new) (goes_on result) numbers.old n numbers.new (reached result))
         × SyncTold words.new }
 {

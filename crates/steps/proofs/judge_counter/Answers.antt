@@ -25,7 +25,7 @@ judge-j-requires c =
 pub drop_room-requires : goal.drop_room-requires
 drop_room-requires c =
     let args = c.args in
-    (c.requires.sized.0.wide, within_below room_count (room_for (core_in args.times.now args.words.now) args.seen.header.pid) c.room_for-room.result (c.room_for-room.ensures args.times.now))
+    within_below room_count (room_for (core_in args.times.now args.words.now) args.seen.header.pid) c.room_for-room.result (c.room_for-room.ensures args.times.now)
 
 pub returns-then-h : goal.returns-then-h
 returns-then-h c =
@@ -45,7 +45,7 @@ returns-then-h c =
     let same = ap (λ k. held k args.memory.now) (dropped.0 times (room_for core (pid_of packet)) room) in record {
       done = rw (c.from-pid.ensures ∙ f.pid) (done_as (counter_scrambled args.seen.time packet args.counters.now core j.result verdict args.memory.now (sym f.scrambled ∙ c.if-h.true))
           (done_also _ _ 2 61 _ _ _ _ _ _ _ _ _ w.0 w.1 (omega (arith, said.2, c.judge_scrambled-last.ensures.1)) (done_from same (done_quiet _ _ 61 _ _))));
-      moved = record { times = latest_same start.requires.sized.0.long; words = dropped.1 };
+      moved = record { times = latest_same (omega arith); words = dropped.1 };
     }
 
 pub take_course-requires : goal.take_course-requires
@@ -60,18 +60,15 @@ take_course-requires c =
     let verdict = rw (start.requires.read_off.0.byte, start.requires.read_off.0.header) at j.ensures in
     let room = rw f.pid at (c.room_for-room.ensures times) in
     let said = rw f.pid at c.tell_continuity-next.ensures in
-    let ready = start.requires.sized.1 in record {
-      sized = (
-        start.requires.sized.0,
-        record {
-          packet = ready.packet;
-          whole = ready.whole;
-          listed = ready.listed;
-          sound = ready.sound;
-          places = omega (arith, said.2, ready.places);
-          numbers = omega (arith, ap length said.1 ∙ laid_length _ _ _ _ _, ready.numbers);
-        },
-      );
+    let ready = start.requires.ready in record {
+      ready = record {
+        packet = ready.packet;
+        whole = ready.whole;
+        listed = ready.listed;
+        sound = ready.sound;
+        places = omega (arith, said.2, ready.places);
+        numbers = omega (arith, ap length said.1 ∙ laid_length _ _ _ _ _, ready.numbers);
+      };
       h_value = (start.requires.read_off.0.header, within_below room_count (room_for core args.seen.header.pid) c.room_for-room.result (c.room_for-room.ensures times));
     }
 

@@ -20,7 +20,7 @@ returns-then-h c =
     let h = held (core_in args.times.now args.words.now) args.memory.now in
     let f = fields args.seen.header packet start.requires.read_off.0.header in
     let put = rw f.pid at c.put.ensures in
-    record { done = done_as (error_ends args.seen.time packet counters h (sym f.error ∙ c.if-h.true)) (done_also (quiet h counters) (packet_events args.seen.time packet (transport_error ∷ [])) 1 62 _ _ _ _ _ _ _ _ _ put.0 put.1 (omega arith) (done_quiet h counters 62 _ _)); moved = moved_none start.requires.sized.0 }
+    record { done = done_as (error_ends args.seen.time packet counters h (sym f.error ∙ c.if-h.true)) (done_also (quiet h counters) (packet_events args.seen.time packet (transport_error ∷ [])) 1 62 _ _ _ _ _ _ _ _ _ put.0 put.1 (omega arith) (done_quiet h counters 62 _ _)); moved = moved_none (omega arith) (omega arith) }
 
 pub returns-then-h-2 : goal.returns-then-h-2
 returns-then-h-2 c =
@@ -30,7 +30,7 @@ returns-then-h-2 c =
     let counters = args.counters.now in
     let h = held (core_in args.times.now args.words.now) args.memory.now in
     let f = fields args.seen.header packet start.requires.read_off.0.header in
-    record { done = done_as (null_ends args.seen.time packet counters h (sym f.error ∙ c.if-h.false) (rw (f.pid, f.control) at c.if-h-2.true)) (done_also (quiet h counters) [] 0 63 _ _ _ _ _ _ _ _ _ (omega arith) (sym (laid_none _ _ _ _)) (omega arith) (done_quiet h counters 63 _ _)); moved = moved_none start.requires.sized.0 }
+    record { done = done_as (null_ends args.seen.time packet counters h (sym f.error ∙ c.if-h.false) (rw (f.pid, f.control) at c.if-h-2.true)) (done_also (quiet h counters) [] 0 63 _ _ _ _ _ _ _ _ _ (omega arith) (sym (laid_none _ _ _ _)) (omega arith) (done_quiet h counters 63 _ _)); moved = moved_none (omega arith) (omega arith) }
 
 pub returns : goal.returns
 returns c =

@@ -23,7 +23,7 @@ returns-in-Break c =
     let f = fields args.h packet start.requires.read_off.0.header in
     let sync = c.judge_sync in
     let caught = rw (c.in-Break.is, f.pid) at (sync.ensures.0 times) in
-    record { done = stopped_done args.time packet args.counters.now core args.memory.now _ false args.numbers.now args.n _ c.in-Break.next caught refl; latest_kept = (latest_same start.requires.sized.0.long, sync.ensures.1) }
+    record { done = stopped_done args.time packet args.counters.now core args.memory.now _ false args.numbers.now args.n _ c.in-Break.next caught refl; latest_kept = (latest_same (omega arith), sync.ensures.1) }
 
 pub judge_header-requires : goal.judge_header-requires
 judge_header-requires c =
@@ -35,19 +35,16 @@ judge_header-requires c =
     let f = fields args.h packet start.requires.read_off.0.header in
     let sync = c.judge_sync in
     let caught = rw (c.in-Continue.is, f.pid) at (sync.ensures.0 times) in
-    let ready = start.requires.sized.1.ready in
+    let ready = start.requires.judgeable.ready in
     let right = right_sync packet in record {
-      sized = (
-        record { long = start.requires.sized.0.long; wide = sync.ensures.1.wide },
-        record {
-          packet = ready.packet;
-          whole = ready.whole;
-          listed = omega (arith, ap (λ (k : Core). k.count) caught.core ∙ synced_count right core, ready.listed);
-          sound = ap (λ (k : Core). rooms_sound k.half args.memory.now) caught.core ∙ synced_sound right core args.memory.now ready.sound;
-          places = omega (arith, ready.places, caught.few);
-          numbers = omega (arith, ready.numbers, ap length caught.laid ∙ laid_length _ _ _ _ _);
-        },
-      );
+      ready = record {
+        packet = ready.packet;
+        whole = ready.whole;
+        listed = omega (arith, ap (λ (k : Core). k.count) caught.core ∙ synced_count right core, ready.listed);
+        sound = ap (λ (k : Core). rooms_sound k.half args.memory.now) caught.core ∙ synced_sound right core args.memory.now ready.sound;
+        places = omega (arith, ready.places, caught.few);
+        numbers = omega (arith, ready.numbers, ap length caught.laid ∙ laid_length _ _ _ _ _);
+      };
       read_off = (start.requires.read_off.0, start.requires.read_off.1);
     }
 

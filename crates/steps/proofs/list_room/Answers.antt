@@ -15,7 +15,7 @@ use Rattle.steps.proofs.list_room.Goals as goal
 pub map-requires : goal.map-requires
 map-requires c = λ x e u v.
     let es = listed_in [] c.args.words.now in
-    omega (arith, within_below (length es) (place_of c.args.pid es) c.place_in.result (c.place_in.ensures []) x e, listed_few [] c.args.words.now c.requires.1)
+    omega (arith, within_below (length es) (place_of c.args.pid es) c.place_in.result (c.place_in.ensures []) x e, listed_few [] c.args.words.now c.requires)
 
 pub returns : goal.returns
 returns c =
@@ -23,4 +23,4 @@ returns c =
     let shifted : c.map.result ≡ option_map (λ k. fixed_count + k) c.place_in.result = search rules in
     λ times.
     let es = listed_in times words in
-    shifted ∙ placed (length es) (place_of c.args.pid es) (listed_few times words c.requires.1) c.place_in.result (c.place_in.ensures times)
+    shifted ∙ placed (length es) (place_of c.args.pid es) (listed_few times words c.requires) c.place_in.result (c.place_in.ensures times)

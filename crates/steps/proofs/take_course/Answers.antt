@@ -36,10 +36,10 @@ returns-in_default-clause-by_index c =
     course_left args.seen.time args.seen.packet.now r args.j.keep _ cs (core_in args.times.now args.words.now) _ args.memory.now args.numbers.now args.n (c.keep_room.ensures.0 args.times.now r e) (rw (not-false _ c.if-not-j.false, past))
 
 pub slice_bounds-take_payload-count : goal.slice_bounds-take_payload-count
-slice_bounds-take_payload-count c = begins c.args.seen.header c.args.seen.packet.now c.requires.h_value.0 c.requires.sized.1.packet
+slice_bounds-take_payload-count c = begins c.args.seen.header c.args.seen.packet.now c.requires.h_value.0 c.requires.ready.packet
 
 pub slice_bounds-take_payload-start : goal.slice_bounds-take_payload-start
-slice_bounds-take_payload-start c = omega (arith, begins c.args.seen.header c.args.seen.packet.now c.requires.h_value.0 c.requires.sized.1.packet)
+slice_bounds-take_payload-start c = omega (arith, begins c.args.seen.header c.args.seen.packet.now c.requires.h_value.0 c.requires.ready.packet)
 
 pub take_payload-requires : goal.take_payload-requires
 take_payload-requires c =
@@ -49,18 +49,15 @@ take_payload-requires c =
     let f = fields args.seen.header packet c.requires.h_value.0 in
     let below = c.requires.h_value.1 c.in-Some.room c.in-Some.is in
     let kept = c.keep_room.ensures.0 args.times.now c.in-Some.room (c.in-Some.is ∙ within_here room_count _ c.in-Some.room refl below) in
-    let ready = c.requires.sized.1 in (
-      record { long = c.requires.sized.0.long; wide = c.keep_room.ensures.1.wide },
-      record {
-        whole = ready.whole;
-        room = below;
-        listed = omega (arith, ap (λ (k : Core). k.count) kept ∙ kept_count args.j.keep (core_in args.times.now args.words.now) c.in-Some.room, ready.listed);
-        sound = ap (λ (k : Core). rooms_sound k.half args.memory.now) kept ∙ kept_sound args.j.keep (core_in args.times.now args.words.now) c.in-Some.room args.memory.now ready.sound;
-        payload = rw (rest_all packet at) (omega (arith, length-drop at packet, f.payload, ready.packet, payload_from packet));
-        places = ready.places;
-        numbers = ready.numbers;
-      },
-    )
+    let ready = c.requires.ready in record {
+      whole = ready.whole;
+      room = below;
+      listed = omega (arith, ap (λ (k : Core). k.count) kept ∙ kept_count args.j.keep (core_in args.times.now args.words.now) c.in-Some.room, ready.listed);
+      sound = ap (λ (k : Core). rooms_sound k.half args.memory.now) kept ∙ kept_sound args.j.keep (core_in args.times.now args.words.now) c.in-Some.room args.memory.now ready.sound;
+      payload = rw (rest_all packet at) (omega (arith, length-drop at packet, f.payload, ready.packet, payload_from packet));
+      places = ready.places;
+      numbers = ready.numbers;
+    }
 
 pub returns-clause-by_index : goal.returns-clause-by_index
 returns-clause-by_index c =
