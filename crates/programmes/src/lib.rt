@@ -163,8 +163,8 @@ fn moved_halves(old: &[Entry], new: &[Entry], half: &[u16; ROOMS]) -> [u16; ROOM
     ensures { result ≡ moved_halves old.now new.now half.now }
 {
     let mut out = *half;
-    for k in 0..MOST_LISTED {
-        out[FIXED + k] = moved_half(old, new, half, k);
+    for (k, n) in out[FIXED..].iter_mut().enumerate() {
+        *n = moved_half(old, new, half, k);
     }
     out
 }
@@ -193,7 +193,7 @@ fn move_places(mem: &mut [u8; MEMORY], old: &[Entry], new: &[Entry], half: &[u16
         if let Some(place) = place_of(old, e.pid) {
             let to = sections::room_base(FIXED + k);
             let from = sections::room_base(FIXED + place);
-            let n = half[FIXED + k] as usize;
+            let n = usize::from(half[FIXED + k]);
             octets::copy(mem, to, &saved[from..from + n]);
         }
     }
