@@ -52,7 +52,7 @@ fn seen_before(before: &[[u8; 4]], number: u16) -> bool
 {
     before
         .iter()
-        .any(|e| u16::from_be_bytes([e[0], e[1]]) == number)
+        .any(|&[a, b, ..]| u16::from_be_bytes([a, b]) == number)
 }
 
 // Whether an entry of a programme other than 0 can be listed behind `count` others.
