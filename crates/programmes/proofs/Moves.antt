@@ -2,13 +2,16 @@
 use mathlib.Core.Path.{◌≡◌, refl, sym, ap, ◌∙◌}
 use mathlib.Core.Bool.{Bool, true, false, cond, ◌&&◌}
 use mathlib.Core.List.{List, [], ◌∷◌, ◌++◌, map, append-nil}
-use Prim.Native.Nat.{ℕ, zero, suc, ◌+◌, ◌≤◌, ◌<◌}
+use Prim.Native.Nat.{ℕ, zero, suc, ◌+◌, ◌-◌, ◌≤◌, ◌<◌}
 use native.Mathlib.Nat.{add-zero, le_of_suc-le-suc, not-suc-le-zero}
 use native.Mathlib.Numerals.{add-one}
 use native.Mathlib.Omega.{arith}
 use lib.Dec.{ltb, eqb}
+use borrow.Rule.Slice.PartMut.{put_mid}
 use Rattle.std.specs.Prelude.{Some, None}
-use lib.ListN.{length, get_or, set, take, drop_of_length-le, length-append, get_or-append}
+use Rattle.std.specs.List.{range_with_len}
+use Rattle.std.proofs.lemmas.List.{ext_get_or}
+use lib.ListN.{length, get_or, take, drop, drop_of_length-le, length-drop, length-append, get_or-append}
 use lib.Seq.{sets, set-get_or, get_or-take, get_or-append-add, length-take-le, sets-eq}
 use borrow.Author.Tests.{ltb-true, ltb-false}
 use Rattle.lists.specs.Places.{part}
@@ -26,13 +29,6 @@ use Rattle.programmes.proofs.Moved.{room_laid, laid_back, rooms_alike}
 
 -- ALL PLACES, one after the other: the number f k for each place k
 module _ (f : ℕ → ℕ) where
-  from_suc : (k left : ℕ) → map f (places_from k (suc left)) ≡ map f (places_from k left) ++ (f (k + left) ∷ [])
-  unfolding places_from
-  from_suc k zero = rw (add-zero k)
-  from_suc k (suc left) =
-      let e : k + 1 + left ≡ k + suc left = omega arith in
-      ap (λ z. f k ∷ z) (from_suc (k + 1) left ∙ ap (λ i. map f (places_from (k + 1) left) ++ (f i ∷ [])) e)
-
   from_length : (k left : ℕ) → length (map f (places_from k left)) ≡ left
   unfolding places_from
   from_length k zero = refl
@@ -55,20 +51,13 @@ module _ (old new : List Entry) (ns : List ℕ) where
   halves_length e =
       length-append (take 5 ns) (moved_first 16) ∙ omega (arith, length-take-le 5 ns (omega arith), from_length (moved_half old new ns) 0 16)
 
-  pub halves_begin : sets ns 5 (moved_first 0) ≡ ns
+  -- the lengths of the list's rooms, all written
+  pub halves_put : (moved : List ℕ) → length ns ≡ 21 → moved ≡ map (moved_half old new ns) (range_with_len 0 16) → put_mid 5 16 ns moved ≡ moved_halves old new ns
   unfolding places_from
-  halves_begin = refl
-
-  pub halves_turn : (k : ℕ) → set (sets ns 5 (moved_first k)) (5 + k) (moved_half old new ns k) ≡ sets ns 5 (moved_first (k + 1))
-  halves_turn k =
-      let z : 0 + k ≡ k = omega arith in
-      rw (add-one k, from_suc (moved_half old new ns) 0 k, z, sets_append ns 5 (moved_first k) (moved_half old new ns k ∷ []), from_length (moved_half old new ns) 0 k)
-
-  pub halves_end : length ns ≡ 21 → sets ns 5 (moved_first 16) ≡ moved_halves old new ns
-  halves_end e =
-      sets-eq (moved_first 16) ns 5 (omega (arith, from_length (moved_half old new ns) 0 16))
-      ∙ ap (λ z. take 5 ns ++ moved_first 16 ++ z) (drop_of_length-le ns {i = 5 + length (moved_first 16)} (omega (arith, from_length (moved_half old new ns) 0 16)))
-      ∙ append-nil (take 5 ns ++ moved_first 16)
+  halves_put moved e is =
+      rw is
+      (ap (λ z. take 5 ns ++ (moved_first 16 ++ z)) (drop_of_length-le (drop 5 ns) {i = 16} (omega (arith, length-drop 5 ns)))
+      ∙ ap (λ z. take 5 ns ++ z) (append-nil (moved_first 16)))
 
 -- A PLACE WITH HALF-BUILT BYTES is listed, and was listed before
 half_some : (a b : Bool) (x : ℕ) → 0 < cond (a && b) x 0 → (a ≡ true) × (b ≡ true) × (cond (a && b) x 0 ≡ x)
@@ -110,17 +99,17 @@ module _ (old new : List Entry) (ns : List ℕ) (most : length old ≤ 16) (none
           let s = half_some (is_first new k) (is_listed (pid_at new k) old) (half_at ns (room_of_place (place_of (pid_at new k) old))) some in
           s.2 ∙ none (place_of (pid_at new k) old) (omega (arith, ltb-true (place_of (pid_at new k) old) (length old) s.1))
 
-  laid_none : (k : ℕ) → k ≤ 16 → sets ns 5 (moved_first old new ns k) ≡ ns
-  laid_none zero h = halves_begin old new ns
-  laid_none (suc k) h =
-      ap (λ n. sets ns 5 (moved_first old new ns n)) (sym (add-one k))
-      ∙ sym (halves_turn old new ns k)
-      ∙ ap (λ z. set z (5 + k) (moved_half old new ns k)) (laid_none k (omega arith))
-      ∙ ap (set ns (5 + k)) (half_none k ∙ sym (none k h))
-      ∙ set-get_or ns (5 + k) 0
-
   pub halves_none : length ns ≡ 21 → moved_halves old new ns ≡ ns
-  halves_none e = sym (halves_end old new ns e) ∙ laid_none 16 (omega arith)
+  halves_none e =
+      ext_get_or 0 (moved_halves old new ns) ns (halves_length old new ns e ∙ sym e) (λ r h. go r (omega (arith, h, halves_length old new ns e)) (order r 5))
+    where
+      go : (r : ℕ) → r < 21 → Order r 5 → half_at (moved_halves old new ns) r ≡ half_at ns r
+      go r h (below b) = halves_fixed old new ns (omega arith) r b
+      go r h (from b) =
+          let k = r - 5 in
+          let at : r ≡ room_of_place k = omega arith in
+          let few : k < 16 = omega arith in
+          rw at (halves_at_lem old new ns (omega arith) k few ∙ half_none k ∙ sym (none k few))
 
 -- THE PLACE that the search finds
 pub place_some : (q : ℕ) (es : List Entry) (k : ℕ) → Some k ≡ listed_place q es → k ≡ place_of q es

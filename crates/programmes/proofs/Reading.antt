@@ -1,40 +1,44 @@
 -- The list read entry by entry. Assumes nothing.
 use mathlib.Core.Path.{◌≡◌, refl, sym, ap, ◌∙◌}
-use mathlib.Core.Bool.{true, false, cond, ◌||◌, or-true}
-use mathlib.Core.List.{List, [], ◌∷◌}
-use Prim.Native.Nat.{ℕ, zero, suc, ◌+◌, ◌*◌, ◌≤◌, ◌<◌}
-use native.Mathlib.Numerals.{add-one}
+use mathlib.Core.Bool.{Bool, true, false, cond, ◌||◌}
+use mathlib.Core.List.{List, [], ◌∷◌, ◌++◌}
+use Prim.Native.Nat.{ℕ, zero, suc, ◌+◌, ◌*◌, ◌/◌, ◌≤◌, ◌<◌}
+use native.Mathlib.Nat.{suc-mul, zero-mul}
 use native.Mathlib.Omega.{arith}
 use lib.Dec.{eqb}
-use lib.ListN.{length, drop, length-drop}
-use Rattle.lists.proofs.Tests.{Order, below, from, order}
+use lib.ListN.{length, get_or, take, drop, length-drop}
+use lib.Seq.{drop-drop}
+use Rattle.std.specs.List.{list_any}
+use Rattle.std.specs.Simd.{first_chunks}
+use Rattle.std.proofs.lemmas.List.{take_more}
 use Rattle.lists.proofs.Turns.{drop_four}
 use Rattle.watches.specs.declared.Entry.{Entry}
 use Rattle.programmes.specs.declared.Listed.{Listed}
 use Rattle.programmes.specs.declared.Addition.{Addition}
 use Rattle.programmes.specs.declared.Addition.TheVariants.{Nothing, Mark, One}
 use Rattle.programmes.specs.Listing.{is_number, entered, made_bad, read_on}
-use Rattle.programmes.specs.inner.Reading.{number_at, pid_in, seen_to, with_addition}
+use Rattle.programmes.specs.inner.Reading.{number_in, pid_in, seen_in, with_addition}
 
 -- A NUMBER SEEN EARLIER: that of an entry before, or of none
-pub seen_at : (n : ℕ) (e : List ℕ) (k i : ℕ) → i < k → eqb (number_at e i) n ≡ true → is_number n (seen_to e k) ≡ true
-unfolding is_number seen_to
-seen_at n e zero i h s = absurd (omega arith)
-seen_at n e (suc k) i h s = go (order i k) (seen_at n e k i)
+is_number_last : (n m : ℕ) (ns : List ℕ) → is_number n (ns ++ m ∷ []) ≡ (eqb m n || is_number n ns)
+unfolding is_number
+is_number_last n m [] = refl
+is_number_last n m (k ∷ ns) = ap (λ z. eqb k n || z) (is_number_last n m ns) ∙ turned (eqb k n) (eqb m n) (is_number n ns)
   where
-    go : Order i k → (i < k → eqb (number_at e i) n ≡ true → is_number n (seen_to e k) ≡ true) → (eqb (number_at e k) n || is_number n (seen_to e k)) ≡ true
-    go (below b) before = ap (λ z. eqb (number_at e k) n || z) (before b s) ∙ or-true (eqb (number_at e k) n)
-    go (from b) before =
-        let q : i ≡ k = omega arith in
-        ap (λ z. z || is_number n (seen_to e k)) (ap (λ j. eqb (number_at e j) n) (sym q) ∙ s)
+    turned : (a b c : Bool) → (a || (b || c)) ≡ (b || (a || c))
+    turned true true c = refl
+    turned true false c = refl
+    turned false b c = refl
 
-pub seen_none : (n : ℕ) (e : List ℕ) → is_number n (seen_to e 0) ≡ false
-unfolding is_number seen_to
-seen_none n e = refl
+pub seen_any : (n : ℕ) (fs : List (List ℕ)) → list_any (λ (f : List ℕ). eqb (number_in f) n) fs ≡ is_number n (seen_in fs)
+unfolding is_number seen_in
+seen_any n [] = refl
+seen_any n (f ∷ fs) = ap (λ z. eqb (number_in f) n || z) (seen_any n fs) ∙ sym (is_number_last n (number_in f) (seen_in fs))
 
-pub seen_next : (n : ℕ) (e : List ℕ) (i : ℕ) → eqb (number_at e i) n ≡ false → is_number n (seen_to e i) ≡ false → is_number n (seen_to e (i + 1)) ≡ false
-unfolding is_number seen_to
-seen_next n e i h s = rw (add-one i, h) s
+pub seen_next : (f : List ℕ) (fs : List (List ℕ)) → seen_in (fs ++ f ∷ []) ≡ number_in f ∷ seen_in fs
+unfolding seen_in
+seen_next f [] = refl
+seen_next f (g ∷ fs) = ap (λ z. z ++ number_in g ∷ []) (seen_next f fs)
 
 -- the list with what an entry adds: at most sixteen are listed
 pub added_most : (r : Addition) (l : Listed) → l.count ≤ 16 → ((e : Entry) → r ≡ One e → l.count < 16) → (with_addition r l).count ≤ 16
@@ -42,29 +46,43 @@ added_most Nothing l most room = most
 added_most Mark l most room = most
 added_most (One e) l most room = omega (arith, room e refl)
 
--- ONE ENTRY of four bytes
-module _ (t : ℕ) (old : List Entry) (e : List ℕ) where
-  pub read_turn : (k : ℕ) (l : Listed) → 4 * k + 4 ≤ length e
-      → read_on t old (seen_to e k) l (drop (4 * k) e)
-      ≡ read_on t old (seen_to e (k + 1)) (entered t old (seen_to e k) (number_at e k) (pid_in e k) l) (drop (4 * (k + 1)) e)
-  unfolding read_on seen_to
-  read_turn k l h =
-      let q : 4 * suc k ≡ 4 * k + 4 = omega arith in
-      rw (add-one k) (ap (read_on t old (seen_to e k) l) (drop_four e (4 * k) 0 h) ∙ ap (λ z. read_on t old (number_at e k ∷ seen_to e k) (entered t old (seen_to e k) (number_at e k) (pid_in e k) l) (drop z e)) (sym q))
+-- THE ENTRIES as chunks of four
+chunk_at : {A : Type 0} (n k i : ℕ) (s : List A) (d : List A) → i < k → get_or (first_chunks n k s) i d ≡ take n (drop (i * n) s)
+chunk_at n zero i s d h = absurd (omega arith)
+chunk_at n (suc k) zero s d h = rw (zero-mul n) refl
+chunk_at n (suc k) (suc i) s d h =
+    let on : n + i * n ≡ suc i * n = omega (arith, suc-mul i n) in
+    chunk_at n k i (drop n s) d (omega arith) ∙ ap (take n) (drop-drop (i * n) n s ∙ ap (λ (j : ℕ). drop j s) on)
 
-  pub read_begins : (l : Listed) → read_on t old [] l e ≡ read_on t old (seen_to e 0) l (drop (4 * 0) e)
-  unfolding seen_to
-  read_begins l = refl
+-- ONE ENTRY of four bytes
+module _ (t : ℕ) (old : List Entry) (e : List ℕ) (fs : List (List ℕ)) (is : fs ≡ first_chunks 4 (length e / 4) e) where
+  pub read_turn : (k : ℕ) (l : Listed) → k < length e / 4 → k < length fs
+      → read_on t old (seen_in (take k fs)) l (drop (k * 4) e)
+      ≡ read_on t old (seen_in (take (k + 1) fs)) (entered t old (seen_in (take k fs)) (number_in (get_or fs k [])) (pid_in (get_or fs k [])) l) (drop ((k + 1) * 4) e)
+  unfolding read_on
+  read_turn k l h m =
+      let i = k * 4 in
+      let q : (k + 1) * 4 ≡ k * 4 + 4 = omega arith in
+      let here : get_or fs k [] ≡ get_or e i 0 ∷ get_or e (i + 1) 0 ∷ get_or e (i + 2) 0 ∷ get_or e (i + 3) 0 ∷ [] =
+      ap (λ z. get_or z k []) is ∙ chunk_at 4 (length e / 4) k e [] h ∙ ap (take 4) (drop_four e i 0 (omega (arith, h))) in
+      rw (take_more fs k [] m, seen_next (get_or fs k []) (take k fs), q, here, drop_four e i 0 (omega (arith, h))) refl
+
+module _ (t : ℕ) (old : List Entry) where
+  pub read_begins : (l : Listed) (e : List ℕ) → read_on t old [] l e ≡ read_on t old (seen_in []) l e
+  unfolding seen_in
+  read_begins l e = refl
 
   -- ONE TO THREE SPARE BYTES make the list bad
-  spare : (seen : List ℕ) (l : Listed) (s : List ℕ) → length s < 4 → read_on t old seen l s ≡ cond (eqb (length s) 0) l (made_bad l)
+  spare_bad : (seen : List ℕ) (l : Listed) (s : List ℕ) → length s < 4 → read_on t old seen l s ≡ cond (eqb (length s) 0) l (made_bad l)
   unfolding read_on
-  spare seen l [] h = refl
-  spare seen l (a ∷ []) h = refl
-  spare seen l (a ∷ b ∷ []) h = refl
-  spare seen l (a ∷ b ∷ c ∷ []) h = refl
-  spare seen l (a ∷ b ∷ c ∷ d ∷ s) h = absurd (omega arith)
+  spare_bad seen l [] h = refl
+  spare_bad seen l (a ∷ []) h = refl
+  spare_bad seen l (a ∷ b ∷ []) h = refl
+  spare_bad seen l (a ∷ b ∷ c ∷ []) h = refl
+  spare_bad seen l (a ∷ b ∷ c ∷ d ∷ s) h = absurd (omega arith)
 
-  pub read_ends : (k : ℕ) (l : Listed) → 4 * k ≤ length e → length e < 4 * k + 4
-      → read_on t old (seen_to e k) l (drop (4 * k) e) ≡ cond (eqb (length (drop (4 * k) e)) 0) l (made_bad l)
-  read_ends k l h g = spare (seen_to e k) l (drop (4 * k) e) (omega (arith, length-drop (4 * k) e))
+  pub read_ends : (seen : List ℕ) (l : Listed) (e spare : List ℕ) (k : ℕ) → k ≡ length e / 4 → spare ≡ drop (length e / 4 * 4) e
+      → read_on t old seen l (drop (k * 4) e) ≡ cond (eqb (length spare) 0) l (made_bad l)
+  read_ends seen l e spare k h is =
+      let at : drop (k * 4) e ≡ spare = ap (λ j. drop (j * 4) e) h ∙ sym is in
+      rw at (spare_bad seen l spare (omega (arith, ap length is, length-drop (length e / 4 * 4) e)))

@@ -9,7 +9,7 @@ ghost use Rattle.watches.specs.Tables.{fixed_count};
 ghost use Rattle.sections.specs.Rooms.{room_count, room_of_place};
 ghost use Rattle.programmes.specs.declared.Addition.TheVariants.{One};
 ghost use Rattle.programmes.specs.Listing.{entry_for, is_number, pid_unusable, most_listed, entered, none_listed, read_on, list_of};
-ghost use Rattle.programmes.specs.inner.Reading.{number_at, pid_in, seen_to, with_addition};
+ghost use Rattle.programmes.specs.inner.Reading.{number_in, pid_in, seen_in, with_addition};
 ghost use Rattle.programmes.specs.Places.{half_at, every_place, moved_half, moved_halves, rooms_laid, moved_bytes};
 ghost use Rattle.programmes.specs.inner.Moving.{listed_place, none_half, section_at, Placed, Stayed};
 
@@ -46,41 +46,20 @@ fn entry_for(t: u64, old: &[Entry], number: u16, pid: u16) -> Entry
         })
 }
 
-// The programme number of the entry k.
-fn number_at(e: &[u8], k: usize) -> u16
-    requires { 4 * k + 4 ≤ length e.now }
-    ensures { result ≡ number_at e.now k }
+// Whether a number is that of one of these entries.
+fn seen_before(before: &[[u8; 4]], number: u16) -> bool
+    ensures { result ≡ is_number number (seen_in before.now) }
 {
-    u16::from_be_bytes([e[4 * k], e[4 * k + 1]])
+    before
+        .iter()
+        .any(|&[a, b, ..]| u16::from_be_bytes([a, b]) == number)
 }
 
-// The PID of the entry k.
-fn pid_in(e: &[u8], k: usize) -> u16
-    requires { 4 * k + 4 ≤ length e.now }
-    ensures { result ≡ pid_in e.now k }
+// Whether an entry of a programme other than 0 can be listed behind `count` others.
+fn is_usable(before: &[[u8; 4]], number: u16, pid: u16, count: usize) -> bool
+    ensures { result ≡ not (pid_unusable pid || (is_number number (seen_in before.now) || leb most_listed count)) }
 {
-    u16::from_be_bytes([e[4 * k + 2] % 32, e[4 * k + 3]])
-}
-
-// Whether a number is that of an entry before the entry k.
-fn seen_before(e: &[u8], number: u16, k: usize) -> bool
-    requires { 4 * k ≤ length e.now }
-    ensures { result ≡ is_number number (seen_to e.now k) }
-{
-    for i in 0..k {
-        if number_at(e, i) == number {
-            return true;
-        }
-    }
-    false
-}
-
-// Whether the entry k, of a programme other than 0, can be listed behind `count` others.
-fn is_usable(e: &[u8], k: usize, number: u16, pid: u16, count: usize) -> bool
-    requires { 4 * k ≤ length e.now }
-    ensures { result ≡ not (pid_unusable pid || (is_number number (seen_to e.now k) || leb most_listed count)) }
-{
-    pid >= LOWEST_PID && pid != NULL_PID && count < MOST_LISTED && !seen_before(e, number, k)
+    pid >= LOWEST_PID && pid != NULL_PID && count < MOST_LISTED && !seen_before(before, number)
 }
 
 // What an entry of a PAT adds to the list: nothing where it is of programme 0, a mark that the list is bad, or an entry.
@@ -91,35 +70,36 @@ enum Addition {
     One(Entry),
 }
 
-// What the entry k adds behind `count` others; old is the list just replaced.
-fn read_one(count: usize, t: u64, old: &[Entry], e: &[u8], k: usize) -> Addition
-    requires { 4 * k + 4 ≤ length e.now }
-    ensures adds { (l : Listed) → l.count ≡ count → entered t old.now (seen_to e.now k) (number_at e.now k) (pid_in e.now k) l ≡ with_addition result l }
+// What the entry of these four bytes adds behind `count` others; before are the entries before it, old is the list just
+// replaced.
+fn read_one(count: usize, t: u64, old: &[Entry], before: &[[u8; 4]], entry: [u8; 4]) -> Addition
+    ensures adds { (l : Listed) → l.count ≡ count → entered t old.now (seen_in before.now) (number_in entry) (pid_in entry) l ≡ with_addition result l }
     ensures room { (entry : Entry) → result ≡ One entry → count < most_listed }
 {
-    let number = number_at(e, k);
-    let pid = pid_in(e, k);
+    let [a, b, c, d] = entry;
+    let number = u16::from_be_bytes([a, b]);
+    let pid = u16::from_be_bytes([c % 32, d]);
     if number == 0 {
-        return Addition::Nothing;
+        Addition::Nothing
+    } else if is_usable(before, number, pid, count) {
+        Addition::One(entry_for(t, old, number, pid))
+    } else {
+        Addition::Mark
     }
-    if !is_usable(e, k, number, pid, count) {
-        return Addition::Mark;
-    }
-    Addition::One(entry_for(t, old, number, pid))
 }
 
-// The list of the entries e, which are read by their place, since each is judged by those before it (`seen_to`); old is
-// the list just replaced.
+// The list of the entries in the bytes e, each judged by those before it; old is the list just replaced.
 fn read_entries(t: u64, old: &[Entry], e: &[u8]) -> Listed
     ensures { (result ≡ read_on t old.now [] none_listed e.now) × (result.count ≤ most_listed) }
 {
+    let (entries, spare) = e.as_chunks::<4>();
     let mut l = Listed {
         count: 0,
         bad: false,
         entries: [NO_ENTRY; MOST_LISTED],
     };
-    for k in 0..e.len() / 4 {
-        match read_one(l.count, t, old, e, k) {
+    for (k, &entry) in entries.iter().enumerate() {
+        match read_one(l.count, t, old, &entries[..k], entry) {
             Addition::Nothing => {}
             Addition::Mark => l.bad = true,
             Addition::One(entry) => {
@@ -128,7 +108,7 @@ fn read_entries(t: u64, old: &[Entry], e: &[u8]) -> Listed
             }
         }
     }
-    if e.len() % 4 != 0 {
+    if !spare.is_empty() {
         l.bad = true;
     }
     l
@@ -183,8 +163,8 @@ fn moved_halves(old: &[Entry], new: &[Entry], half: &[u16; ROOMS]) -> [u16; ROOM
     ensures { result ≡ moved_halves old.now new.now half.now }
 {
     let mut out = *half;
-    for k in 0..MOST_LISTED {
-        out[FIXED + k] = moved_half(old, new, half, k);
+    for (k, n) in out[FIXED..].iter_mut().enumerate() {
+        *n = moved_half(old, new, half, k);
     }
     out
 }
@@ -213,7 +193,7 @@ fn move_places(mem: &mut [u8; MEMORY], old: &[Entry], new: &[Entry], half: &[u16
         if let Some(place) = place_of(old, e.pid) {
             let to = sections::room_base(FIXED + k);
             let from = sections::room_base(FIXED + place);
-            let n = half[FIXED + k] as usize;
+            let n = usize::from(half[FIXED + k]);
             octets::copy(mem, to, &saved[from..from + n]);
         }
     }

@@ -24,7 +24,7 @@ loop-k-preserved c =
     elim c.match-place_of.branch [
       | in-Some w ↦
           let place = place_some (pid_at new loop.k) old w.in-Some.place (sym w.in-Some.is ∙ c.place_of.ensures) in
-          w.mem-is ∙ w.copy.ensures ∙ rw (w.room_base-to.ensures, w.room_base-from.ensures, place, part_lent _ _ _)
+          w.mem-is ∙ w.copy.ensures ∙ rw (w.room_base-to.ensures, w.room_base-from.ensures, w.from-n.ensures, place, part_lent _ _ _)
       | in_default w ↦ w.mem-is ∙ sym (unlisted_back old new args.half.now args.mem.now pre.placed loop.k loop.mem (sym w.in_default.is ∙ c.place_of.ensures) (omega (arith, pre.listed.1, c.loop-k-test.true)))
     ] in
     loop.invariant ∙ turn ∙ ap (λ m. laid_from f (loop.k + 1) (16 - (loop.k + 1)) m) (sym next)

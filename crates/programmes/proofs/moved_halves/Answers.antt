@@ -1,20 +1,13 @@
--- `programmes::moved_halves` meets its contract. Assumes nothing.
-use mathlib.Core.Path.{◌≡◌, sym, ◌∙◌}
+-- `programmes::moved_halves` meets its contract: the lengths of the list's rooms are all written. Assumes nothing.
 use native.Mathlib.Omega.{arith}
-use Rattle.programmes.proofs.Moves.{halves_begin, halves_turn, halves_end}
+use Rattle.std.proofs.lemmas.List.FromFn.{fill_by_all}
+use Rattle.programmes.specs.Places.{moved_half}
+use Rattle.programmes.proofs.Moves.{halves_put}
 use Rattle.programmes.proofs.moved_halves.Goals as goal
-
-pub loop-k-init : goal.loop-k-init
-loop-k-init c = sym (halves_begin c.args.old.now c.args.new.now c.args.half.now)
-
-pub loop-k-preserved : goal.loop-k-preserved
-loop-k-preserved c =
-    let args = c.args in
-    let loop = c.loop-k in
-    rw (loop.invariant, c.moved_half.ensures) (halves_turn args.old.now args.new.now args.half.now loop.k)
 
 pub returns : goal.returns
 returns c =
-    let args = c.args in
-    let k : c.loop-k.k ≡ 16 = omega arith in
-    c.loop-k.invariant ∙ rw k (halves_end args.old.now args.new.now args.half.now (omega arith))
+    let a = c.args in
+    let f = moved_half a.old.now a.new.now a.half.now in
+    let moved = c.loop-k.n-items in
+    halves_put a.old.now a.new.now a.half.now moved (omega arith) (fill_by_all f moved 16 0 (omega arith) (λ k below. c.loop-k.invariant k 0 (omega arith)))

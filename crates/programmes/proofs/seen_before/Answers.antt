@@ -1,21 +1,19 @@
 -- `programmes::seen_before` meets its contract. Assumes nothing.
-use mathlib.Core.Path.{sym}
-use native.Mathlib.Omega.{arith}
-use borrow.Author.Tests.{eq-eqb, ne_eqb}
-use Rattle.programmes.proofs.Reading.{seen_at, seen_none, seen_next}
+use mathlib.Core.Path.{◌∙◌}
+use mathlib.Core.List.{List}
+use Prim.Native.Nat.{ℕ}
+use lib.Dec.{eqb}
+use borrow.Author.Tests.{tests}
+use Rattle.std.proofs.Common.{rules}
+use Rattle.std.proofs.lemmas.Iterator.{YieldsList-from_slice}
+use Rattle.std.proofs.lemmas.Iterator.Search.{any_from_yields_List}
+use Rattle.programmes.specs.inner.Reading.{number_in}
+use Rattle.programmes.proofs.Reading.{seen_any}
 use Rattle.programmes.proofs.seen_before.Goals as goal
 
-pub loop-i-init : goal.loop-i-init
-loop-i-init c = seen_none c.args.number c.args.e.now
-
-pub returns-then-number_at-number : goal.returns-then-number_at-number
-returns-then-number_at-number c =
+pub returns : goal.returns
+returns c =
     let args = c.args in
-    let here = rw c.number_at.ensures at (eq-eqb _ _ c.if-number_at-number.true) in
-    sym (seen_at args.number args.e.now args.k c.loop-i.i (omega arith) here)
-
-pub loop-i-preserved : goal.loop-i-preserved
-loop-i-preserved c =
-    let args = c.args in
-    let here = rw c.number_at.ensures at (ne_eqb _ _ c.if-number_at-number.false) in
-    seen_next args.number args.e.now c.loop-i.i here c.loop-i.invariant
+    any_from_yields_List (λ (f : List ℕ). eqb (number_in f) args.number) _ _ _ c.any.ensures.ran
+    (YieldsList-from_slice args.before.now cc) (λ x b q k. search (rules, tests))
+    ∙ seen_any args.number args.before.now
