@@ -28,6 +28,9 @@ zeros_worst : (set : ℕ) → set < 32 → by_zeros (count_leading_zeros 32 set)
 unfolding count_leading_zeros
 zeros_worst set h = eqb-true (by_zeros (count_leading_zeros 32 set)) (worst_of set) (passes_at highest 32 refl set h)
 
+pub worst_none : (set : ℕ) → set < 32 → count_leading_zeros 32 set ≡ 32 → 0 ≡ worst_of set
+worst_none set h z = rw z at (zeros_worst set h)
+
 pub worst_some : (set : ℕ) → set < 32 → (count_leading_zeros 32 set ≡ 32 → ⊥) → 1 * 2 ^ (31 - count_leading_zeros 32 set) % 2 ^ 32 ≡ worst_of set
 worst_some set h z = rw (ne_eqb (count_leading_zeros 32 set) 32 z) at (zeros_worst set h)
 
