@@ -12,7 +12,8 @@ pub const TABLE_SIZE: usize = 8192;
 
 pub const GREATEST_PID: u16 = 0x1FFE;
 
-// All of the state but the latest accepted time and the half-built bytes, which are lent.
+// All of the state but the latest accepted time and the half-built bytes, which are lent. Sync and its run are two fields, and the
+// list an array with its length, as the two arrays of a host have them (crate `arrays`).
 #[derive(Clone, Copy)]
 pub struct Core {
     // sync is lost; the run of wrong bytes in sync, of right ones while lost
@@ -34,7 +35,8 @@ pub struct State {
     pub core: Core,
 }
 
-// What a call answers: the refusal number (0: accepted), the number of events, and the state.
+// What a call answers: the refusal number (0: accepted), the number of events, and the state. No Result: a refusal answers all three
+// too (`open_answer`, `refused_with`), and the number is what hosts and lines of text tell.
 #[derive(Clone, Copy)]
 pub struct Answer {
     pub refusal: u32,
