@@ -5,7 +5,7 @@
 
 ghost use Rattle.std.specs.Prelude.{◌≡◌, true, cond, ◌&&◌, List, ℕ, ◌-◌, ◌<◌, ◌≤◌, leb, length, take, drop};
 ghost use Rattle.watches.specs.Tables.{fixed_count};
-ghost use Rattle.sections.specs.Rooms.{memory_size, room_count, greatest_length, half_built};
+ghost use Rattle.sections.specs.Rooms.{room_count, greatest_length, half_built};
 ghost use Rattle.sections.specs.Section.{stage_of, is_more};
 ghost use Rattle.programmes.specs.inner.Moving.{none_half};
 ghost use Rattle.programmes.specs.Listing.{most_listed};
@@ -20,7 +20,7 @@ use calls::{GREATEST_PID, TABLE_SIZE};
 use events::LEAST_CAPACITY;
 use header::PACKET_SIZE;
 use programmes::{LOWEST_PID, MOST_LISTED};
-use sections::ROOMS;
+use sections::{MEMORY, ROOMS};
 use watches::{Entry, FIXED, LATEST_TIME};
 
 // Why a call is refused: the numbers 1 to 6.
@@ -107,8 +107,8 @@ fn run_sound(lost: bool, run: u8) -> bool
 
 // Whether the half-built bytes of a room are still to be built on. A given length may reach past the end
 // of section memory: what is there is judged.
-fn room_sound(memory: &[u8], room: usize, half: u16) -> bool
-    requires { (length memory.now ≡ memory_size) × (room < room_count) }
+fn room_sound(memory: &[u8; MEMORY], room: usize, half: u16) -> bool
+    requires { room < room_count }
     ensures { result ≡ is_more (stage_of (greatest_length room) (half_built memory.now room half)) }
 {
     if half == 0 {
@@ -142,8 +142,8 @@ fn rooms_used(half: &[u16]) -> usize
 }
 
 // Whether the half-built bytes of every room are still to be built on: mostly there are none.
-pub fn rooms_sound(half: &[u16], memory: &[u8]) -> bool
-    requires { (length half.now ≡ room_count) × (length memory.now ≡ memory_size) }
+pub fn rooms_sound(half: &[u16], memory: &[u8; MEMORY]) -> bool
+    requires { length half.now ≡ room_count }
     ensures { result ≡ rooms_sound half.now memory.now }
 {
     if none_half(half) {
@@ -159,8 +159,8 @@ pub fn rooms_sound(half: &[u16], memory: &[u8]) -> bool
 }
 
 // The rest of the state behind its list: a run of sync bytes that these calls leave, half-built bytes still to be built on.
-fn rest_sound(lost: bool, run: u8, half: &[u16], memory: &[u8]) -> bool
-    requires { (length half.now ≡ room_count) × (length memory.now ≡ memory_size) }
+fn rest_sound(lost: bool, run: u8, half: &[u16], memory: &[u8; MEMORY]) -> bool
+    requires { length half.now ≡ room_count }
     ensures { result ≡ (leb run (cond lost 4 1) && rooms_sound half.now memory.now) }
 {
     run_sound(lost, run) && rooms_sound(half, memory)
@@ -168,8 +168,8 @@ fn rest_sound(lost: bool, run: u8, half: &[u16], memory: &[u8]) -> bool
 
 // Whether the state is no ground for refusal 5.
 #[tactic(auto, unfolding(calls::specs::Sound::state_sound, arrays::specs::Lent::state_in))]
-fn state_sound(times: &[u64], words: &[u16], memory: &[u8]) -> bool
-    requires { (core_time_count ≤ length times.now) × (core_word_count ≤ length words.now) × (length memory.now ≡ memory_size) }
+fn state_sound(times: &[u64], words: &[u16], memory: &[u8; MEMORY]) -> bool
+    requires { (core_time_count ≤ length times.now) × (core_word_count ≤ length words.now) }
     ensures { result ≡ state_sound (state_in times.now words.now) memory.now }
 {
     let count = arrays::count_in(words);
@@ -223,10 +223,10 @@ pub fn check_state(
     times: &[u64],
     words: &[u16],
     time: u64,
-    memory: &[u8],
+    memory: &[u8; MEMORY],
     byte: u8,
 ) -> Result<(), Refusal>
-    requires { (core_time_count ≤ length times.now) × (core_word_count ≤ length words.now) × (length memory.now ≡ memory_size) }
+    requires { (core_time_count ≤ length times.now) × (core_word_count ≤ length words.now) }
     ensures { number_in result ≡ state_refusal (state_in times.now words.now) time memory.now byte }
 {
     ensure(state_sound(times, words, memory), Refusal::UnknownState)?;
@@ -240,10 +240,10 @@ pub fn check_clock(
     times: &[u64],
     words: &[u16],
     time: u64,
-    memory: &[u8],
+    memory: &[u8; MEMORY],
     capacity: usize,
 ) -> Result<(), Refusal>
-    requires { (core_time_count ≤ length times.now) × (core_word_count ≤ length words.now) × (length memory.now ≡ memory_size) }
+    requires { (core_time_count ≤ length times.now) × (core_word_count ≤ length words.now) }
     ensures { number_in result ≡ clock_refusal (state_in times.now words.now) time memory.now capacity }
 {
     ensure(LEAST_CAPACITY <= capacity, Refusal::FewRecords)?;

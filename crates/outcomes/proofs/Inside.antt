@@ -14,7 +14,6 @@ use contract.Lifetimes.{Lfts}
 use denote.Triple.Entry.{Args, Res}
 use denote.Triple.Clauses.{AtExit}
 use lib.ListN.{take}
-use Rattle.lists.proofs.Tests.{Order, below, from, order}
 use Rattle.octets.proofs.byte_at.Reads as byte_at
 use Rattle.octets.proofs.copy.Reads as copy
 use Rattle.events.proofs.put.Reads as put
@@ -28,7 +27,6 @@ use Rattle.sections.proofs.room_base.Reads as room-base
 use Rattle.sections.proofs.greatest_length.Reads as greatest-length
 use Rattle.sections.proofs.stage_of.Reads as stage-of
 use Rattle.sections.proofs.is_more.Reads as is-more
-use Rattle.sections.proofs.least.Reads as least
 use Rattle.sections.proofs.lay.Reads as lay
 use Rattle.sections.proofs.outcome_of.Reads as outcome-of
 use Rattle.programmes.proofs.read_list.Reads as read-list
@@ -115,7 +113,6 @@ pub record NoSecondOutcomeInside : Type 0 where
   pub sections_greatest_length : (κs : _) → OneAnswer (greatest-length.Post κs) (λ r. r)
   pub sections_stage_of : (κs : _) → OneAnswer (stage-of.Post κs) (λ r. r)
   pub sections_is_more : (κs : _) → OneAnswer (is-more.Post κs) (λ r. r)
-  pub sections_least : (κs : _) → OneAnswer (least.Post κs) (λ r. r)
   pub sections_lay : (κs : _) → OneOutcome (lay.Post κs) (λ r. r) (λ s. s.0.now)
   pub sections_outcome_of : (κs : _) → OneAnswer (outcome-of.Post κs) (λ r. r)
   pub programmes_read_list : (κs : _) → OneAnswer (read-list.Post κs) (λ r. r)
@@ -182,16 +179,6 @@ pub record NoSecondOutcomeInside : Type 0 where
   pub columns_put_refused : (κs : _) → OneOutcome (Put-refused.Post κs) (λ r. r) (λ s. s.0.now)
   pub columns_put_header : (κs : _) → OneOutcome (put-header.Post κs) (λ r. r) (λ s. s.0.now)
 
--- the lesser of two numbers is one number
-least_alike : (a b x y : ℕ) → (x ≤ a) × (x ≤ b) × (x < a → x ≡ b) → (y ≤ a) × (y ≤ b) × (y < a → y ≡ b) → x ≡ y
-least_alike a b x y p q = go (order x a) (order y a)
-  where
-    go : Order x a → Order y a → x ≡ y
-    go (below l) (below k) = both (p.2 l) (q.2 k)
-    go (below l) (from k) = omega (arith, p.2 l, q.1, l, k)
-    go (from l) (below k) = omega (arith, q.2 k, p.1, l, k)
-    go (from l) (from k) = omega (arith, p.0, q.0, l, k)
-
 pub no_second_outcome_inside : NoSecondOutcomeInside
 no_second_outcome_inside =
     record {
@@ -208,7 +195,6 @@ no_second_outcome_inside =
       sections_greatest_length = λ κs a r r' s s' p q. both p q;
       sections_stage_of = λ κs a r r' s s' p q. both p q;
       sections_is_more = λ κs a r r' s s' p q. both p q;
-      sections_least = λ κs a r r' s s' p q. least_alike a.0 a.1.0 r r' p q;
       sections_lay = λ κs a r r' s s' p q. (
         both p.0 q.0,
         p.1

@@ -78,7 +78,7 @@ fn length_bad(top: usize, id: u8, second: u8, n: usize) -> bool
     n > top || (second >= 128 && n < 9) || (id == 0x73 && n < 4)
 }
 
-// section_length in the bytes s, of which there may be too few.
+// section_length in the bytes s, of which there may be too few: `byte_at` reads 0 past them, so no slice pattern.
 fn section_length(s: &[u8]) -> usize
     ensures { (result ≡ section_length s.now) × (result < 4096) }
 {
@@ -110,16 +110,9 @@ pub fn is_more(g: Stage) -> bool
     g == Stage::More
 }
 
-// The lesser of two numbers.
-pub fn least(a: usize, b: usize) -> usize
-    ensures { (result ≤ a) × (result ≤ b) × (result < a → result ≡ b) }
-{
-    a.min(b)
-}
-
 // The bytes s, laid behind the n of the section at base, whose length is known, up to its end.
-fn lay_known(mem: &mut [u8], base: usize, top: usize, n: usize, s: &[u8]) -> Laid
-    requires mem_len { (length mem.old ≡ memory_size) × (base + top + 3 ≤ memory_size) × (3 ≤ n) × (n < top + 3) }
+fn lay_known(mem: &mut [u8; MEMORY], base: usize, top: usize, n: usize, s: &[u8]) -> Laid
+    requires mem_len { (base + top + 3 ≤ memory_size) × (3 ≤ n) × (n < top + 3) }
     requires n_value { is_more (stage_of top (part mem.old base n)) ≡ true }
     ensures { (result ≡ laid_of top (part mem.old base n) n s.now)
         × (mem.new ≡ sets mem.old (base + n) (take result.taken s.now)) × (result.taken ≤ length s.now) }
@@ -140,8 +133,8 @@ fn lay_known(mem: &mut [u8], base: usize, top: usize, n: usize, s: &[u8]) -> Lai
 }
 
 // The bytes s, laid behind the half-built section at base, up to its end.
-fn lay_at(mem: &mut [u8], base: usize, top: usize, half: usize, s: &[u8]) -> Laid
-    requires mem_len { (length mem.old ≡ memory_size) × (base + top + 3 ≤ memory_size) × (half < top + 3) }
+fn lay_at(mem: &mut [u8; MEMORY], base: usize, top: usize, half: usize, s: &[u8]) -> Laid
+    requires mem_len { (base + top + 3 ≤ memory_size) × (half < top + 3) }
     requires half_value { is_more (stage_of top (part mem.old base half)) ≡ true }
     ensures { (result ≡ laid_of top (part mem.old base half) half s.now)
         × (mem.new ≡ sets mem.old (base + half) (take result.taken s.now)) × (result.taken ≤ length s.now) }
@@ -173,8 +166,8 @@ fn lay_at(mem: &mut [u8], base: usize, top: usize, half: usize, s: &[u8]) -> Lai
 }
 
 // The bytes s, laid behind the half-built section of a room, up to its end.
-pub fn lay(mem: &mut [u8], room: usize, half: usize, s: &[u8]) -> Laid
-    requires mem_len { (length mem.old ≡ memory_size) × (room < room_count) }
+pub fn lay(mem: &mut [u8; MEMORY], room: usize, half: usize, s: &[u8]) -> Laid
+    requires mem_len { room < room_count }
     requires half_value { is_more (stage_of (greatest_length room) (half_built mem.old room half)) ≡ true }
     ensures { (result ≡ laid_of (greatest_length room) (half_built mem.old room half) half s.now)
         × (mem.new ≡ laid_in room mem.old half (take result.taken s.now)) × (result.taken ≤ length s.now) }

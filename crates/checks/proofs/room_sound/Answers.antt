@@ -16,12 +16,12 @@ returns-then-half-eq0 c =
     let args = c.args in
     rw (c.if-half-eq0.true, stage_few (greatest_length args.room) [] (omega arith))
 
-pub overflow_sub-memory : goal.overflow_sub-memory
-overflow_sub-memory c = omega (arith, c.room_base-base.ensures, room_fits c.args.room c.requires.1)
+pub overflow_sub-base : goal.overflow_sub-base
+overflow_sub-base c = omega (arith, c.room_base-base.ensures, room_fits c.args.room c.requires)
 
 pub slice_bounds-stage_of-end : goal.slice_bounds-stage_of-end
 slice_bounds-stage_of-end c =
-    omega (arith, c.min-n.ensures, c.room_base-base.ensures, room_fits c.args.room c.requires.1)
+    omega (arith, c.min-n.ensures, c.room_base-base.ensures, room_fits c.args.room c.requires)
 
 pub returns : goal.returns
 returns c =

@@ -8,6 +8,6 @@ pub lay_at-requires-clause-mem_len : goal.lay_at-requires-clause-mem_len
 lay_at-requires-clause-mem_len c =
     let args = c.args in
     let pre = c.requires in
-    let fits = room_fits args.room pre.mem_len.1 in
+    let fits = room_fits args.room pre.mem_len in
     rw (c.room_base.ensures, c.greatest_length.ensures)
-    (pre.mem_len.0, fits, half_short args.mem.now (room_base args.room) (greatest_length args.room) args.half (omega (arith, pre.mem_len.0, fits)) pre.half_value)
+    (fits, half_short args.mem.now (room_base args.room) (greatest_length args.room) args.half (omega (arith, fits)) pre.half_value)

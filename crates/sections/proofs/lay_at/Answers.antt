@@ -58,7 +58,7 @@ lay_known-l-requires-clause-mem_len c =
     let head = c.saturating_sub-head.result in
     let more = rw (part_lent _ _ _) at (ap is_more (sym c.stage_of-stage.ensures) ∙ sym c.is_more.ensures ∙ c.if-not-is_more.false) in
     let long = ap length c.copy-2.ensures ∙ length-sets m (args.base + args.half) (take head args.s.now) in
-    (long ∙ c.requires.mem_len.0, c.requires.mem_len.1, omega arith, half_short c.copy-2.new.dst args.base args.top (args.half + head) (omega (arith, long)) more)
+    (c.requires.mem_len.0, omega arith, half_short c.copy-2.new.dst args.base args.top (args.half + head) (omega (arith, long)) more)
 
 pub lay_known-l-requires-clause-n_value : goal.lay_known-l-requires-clause-n_value
 lay_known-l-requires-clause-n_value c = rw (part_lent _ _ _) at (ap is_more (sym c.stage_of-stage.ensures) ∙ sym c.is_more.ensures ∙ c.if-not-is_more.false)
@@ -75,7 +75,7 @@ returns c =
     let k = head.result in
     let h = part m args.base args.half in
     let in_s : k ≤ length s = c.if-s-head.false in
-    let fits : args.base + args.half + k ≤ length m = omega (arith, pre.mem_len.0, pre.mem_len.1, pre.mem_len.2, head.ensures) in
+    let fits : args.base + args.half + k ≤ length m = omega (arith, pre.mem_len.0, pre.mem_len.1, head.ensures) in
     let long = part_length m args.base args.half (omega (arith, fits)) in
     let w = grown m args.base args.half k s in_s fits in
     let more : is_more (stage_of args.top (h ++ take k s)) ≡ true = rw (part_lent _ _ _, copy2.ensures, w) at (ap is_more (sym c.stage_of-stage.ensures) ∙ sym c.is_more.ensures ∙ c.if-not-is_more.false) in
