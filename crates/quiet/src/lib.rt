@@ -10,7 +10,7 @@ ghost use Rattle.std.specs.Prelude.{◌≡◌, ◌≤◌, false, not, ◌&&◌, 
 ghost use Rattle.watches.specs.Tables.{fixed_tables, latest_time, fixed_count};
 ghost use Rattle.watches.specs.Late.{table_rows};
 ghost use Rattle.header.specs.Header.{packet_size, sync_byte, header_of};
-ghost use Rattle.sections.specs.Rooms.{memory_size, room_count};
+ghost use Rattle.sections.specs.Rooms.{room_count};
 ghost use Rattle.programmes.specs.Listing.{lowest_pid, null_pid, most_listed};
 ghost use Rattle.calls.specs.Sound.{rooms_sound};
 ghost use Rattle.arrays.specs.Lent.{state_in, core_time_count, core_word_count};
@@ -20,6 +20,7 @@ ghost use Rattle.quiet.specs.inner.Quiet.{gap_quiet, rows_quiet, entry_quiet, en
 use calls::{GREATEST_PID, State};
 use header::{Header, SYNC_BYTE};
 use programmes::{LOWEST_PID, MOST_LISTED, NULL_PID};
+use sections::MEMORY;
 use standing::{Standing, View};
 use watches::{
     EIT_LIMIT, Entry, LATEST_TIME, NIT_LIMIT, PAT_LIMIT, PMT_LIMIT, SDT_LIMIT, TDT_LIMIT,
@@ -95,8 +96,8 @@ fn latest_quiet(p: u64, t: u64) -> bool
 }
 
 // The rest of the state: half-built sections as refusal 5 has them. Mostly there are none, and no call is made.
-fn rest_quiet(half: &[u16], memory: &[u8]) -> bool
-    requires { (length half.now ≡ room_count) × (length memory.now ≡ memory_size) }
+fn rest_quiet(half: &[u16], memory: &[u8; MEMORY]) -> bool
+    requires { length half.now ≡ room_count }
     ensures { result ≡ rooms_sound half.now memory.now }
 {
     checks::none_half(half) || checks::rooms_sound(half, memory)
@@ -104,8 +105,8 @@ fn rest_quiet(half: &[u16], memory: &[u8]) -> bool
 
 // Whether the state is quiet for a packet of the PID q.
 #[tactic(auto, unfolding(crate::specs::inner::Quiet::state_quiet))]
-fn state_quiet<S: Standing>(standing: &S, memory: &[u8], t: u64, q: u16) -> bool
-    requires { (length (S.state standing.now).core.entries ≡ most_listed) × (length memory.now ≡ memory_size) }
+fn state_quiet<S: Standing>(standing: &S, memory: &[u8; MEMORY], t: u64, q: u16) -> bool
+    requires { length (S.state standing.now).core.entries ≡ most_listed }
     ensures { result ≡ state_quiet (S.state standing.now) memory.now t q }
 {
     let count = standing.count();
@@ -157,13 +158,13 @@ fn count_quiet(packet: &[u8], h: Header, byte: u8) -> Option<u8>
 #[tactic(auto, unfolding(header::specs::Header::header_of))]
 fn glance<S: Standing>(
     standing: &S,
-    memory: &[u8],
+    memory: &[u8; MEMORY],
     time: u64,
     packet: &[u8],
     h: Header,
     byte: u8,
 ) -> Option<u8>
-    requires { (length (S.state standing.now).core.entries ≡ most_listed) × (length memory.now ≡ memory_size) × (length packet.now ≡ packet_size) × (h ≡ header_of packet.now) }
+    requires { (length (S.state standing.now).core.entries ≡ most_listed) × (length packet.now ≡ packet_size) × (h ≡ header_of packet.now) }
     ensures { result ≡ glance_of (quiet_call (S.state standing.now) memory.now time packet.now byte) packet.now byte }
 {
     let left = count_quiet(packet, h, byte)?;
@@ -178,13 +179,13 @@ fn glance<S: Standing>(
 pub fn quiet_packet(
     times: &[u64],
     words: &[u16],
-    memory: &[u8],
+    memory: &[u8; MEMORY],
     time: u64,
     packet: &[u8],
     h: Header,
     byte: u8,
 ) -> Option<u8>
-    requires core_time_count_in_bounds { (core_time_count ≤ length times.now) × (core_word_count ≤ length words.now) × (length memory.now ≡ memory_size) }
+    requires core_time_count_in_bounds { (core_time_count ≤ length times.now) × (core_word_count ≤ length words.now) }
     requires packet_len { (length packet.now ≡ packet_size) × (h ≡ header_of packet.now) }
     ensures { result ≡ glance_of (quiet_call (state_in times.now words.now) memory.now time packet.now byte) packet.now byte }
 {
@@ -194,13 +195,13 @@ pub fn quiet_packet(
 // That of a call on a state by value.
 pub fn quiet_value(
     state: State,
-    memory: &[u8],
+    memory: &[u8; MEMORY],
     time: u64,
     packet: &[u8],
     h: Header,
     byte: u8,
 ) -> Option<u8>
-    requires { Typed state × (length memory.now ≡ memory_size) × (length packet.now ≡ packet_size) × (h ≡ header_of packet.now) }
+    requires { (length packet.now ≡ packet_size) × (h ≡ header_of packet.now) }
     ensures { result ≡ glance_of (quiet_call state memory.now time packet.now byte) packet.now byte }
 {
     glance(&state, memory, time, packet, h, byte)

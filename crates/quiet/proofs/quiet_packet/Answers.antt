@@ -5,4 +5,4 @@ use Rattle.quiet.proofs.quiet_packet.Goals as goal
 
 pub glance-requires : goal.glance-requires
 unfolding state_in
-glance-requires c = (entries_length c.args.times.now c.args.words.now, c.requires.core_time_count_in_bounds.2, c.requires.packet_len.0, c.requires.packet_len.1)
+glance-requires c = (entries_length c.args.times.now c.args.words.now, c.requires.packet_len.0, c.requires.packet_len.1)
