@@ -13,7 +13,6 @@ ghost use Rattle.calls.specs.Cores.{late_of};
 ghost use Rattle.calls.specs.Calls.{packet_call, clock_call};
 ghost use Rattle.arrays.specs.Lent.{gaps_in, count_in, entries_in, core_in, state_in, latest_at};
 ghost use Rattle.arrays.specs.inner.Kept.{listed_in};
-ghost use Rattle.arrays.specs.inner.Kept.{Sized};
 ghost use Rattle.checks.specs.inner.Ladders.{Right};
 ghost use Rattle.engine.specs.inner.Numbers.{AllFit};
 ghost use Rattle.engine.specs.inner.Lent.{PacketLaid, ClockLaid};

@@ -8,7 +8,7 @@ use native.Mathlib.Omega.{arith}
 use lib.Dec.{eqb, ltb}
 use lib.Seq.{length-take-le}
 use lib.ListN.{length, get_or, set, replicate}
-use borrow.Author.Tests.{lt-ltb, le-ltb, ltb-true, ltb-false}
+use borrow.Author.Tests.{lt-ltb, ltb-true, ltb-false}
 use Rattle.std.specs.Option.{MatchOption, ForSome, option_map}
 use Rattle.std.specs.Prelude.{Option, Some, None}
 use Rattle.std.proofs.lemmas.Option.{none-some}
@@ -29,9 +29,6 @@ use Rattle.arrays.proofs.Stores.{entries_length}
 -- WITHIN n numbers, or none
 pub within_here : (n r k : ℕ) → r ≡ k → k < n → Some k ≡ within n r
 within_here n r k e h = rw (e, lt-ltb k n h)
-
-pub within_none : (n r : ℕ) → n ≤ r → None ≡ within n r
-within_none n r h = rw (le-ltb r n h)
 
 -- the number found is the one searched for
 pub within_is : (n r k : ℕ) → Some k ≡ within n r → k ≡ r

@@ -47,12 +47,7 @@ struct Seen<'a> {
 fn fixed_room(pid: u16) -> Option<usize>
     ensures { result ≡ within fixed_count (fixed_room pid fixed_tables) }
 {
-    for k in 0..FIXED {
-        if watches::table_of(k).pid == pid {
-            return Some(k);
-        }
-    }
-    None
+    (0..FIXED).find(|&k| watches::table_of(k).pid == pid)
 }
 
 // The room of a PID by its first place in the list; of any other no section is built.
@@ -79,25 +74,17 @@ fn room_for(words: &[u16; WORDS], pid: u16) -> Option<usize>
     fixed_room(pid).or_else(|| list_room(words, pid))
 }
 
-// The half-built section of a room, if it is one, dropped.
-fn drop_room(words: &mut [u16; WORDS], room: Option<usize>)
-    requires { ForSome room (λ r. r < room_count) }
-    ensures { ((times : List ℕ) (r : ℕ) → room ≡ within room_count r → core_in times words.new ≡ with_half (set (halves_in words.old) r 0) (core_in times words.old))
-        × SyncKept words.old words.new }
-{
-    if let Some(room) = room {
-        arrays::set_half(words, room, 0);
-    }
-}
-
-// The half-built section of a room dropped, unless it is kept.
+// The half-built section of a room, if it is one, dropped, unless it is kept.
 fn keep_room(words: &mut [u16; WORDS], room: Option<usize>, keep: bool)
     requires { ForSome room (λ r. r < room_count) }
     ensures { ((times : List ℕ) (r : ℕ) → room ≡ within room_count r → core_in times words.new ≡ cond keep (core_in times words.old) (with_half (set (halves_in words.old) r 0) (core_in times words.old)))
         × SyncKept words.old words.new }
 {
-    if !keep {
-        drop_room(words, room);
+    if keep {
+        return;
+    }
+    if let Some(room) = room {
+        arrays::set_half(words, room, 0);
     }
 }
 
@@ -202,7 +189,7 @@ fn judge_counter(
     let next = tell_continuity(j.event, seen.time, h.pid, numbers, n);
     if h.scrambled {
         let last = judge_scrambled(words, seen.time, h.pid, numbers, next);
-        drop_room(words, room);
+        keep_room(words, room, false);
         return last;
     }
     take_course(times, words, seen, room, j, memory, numbers, next)

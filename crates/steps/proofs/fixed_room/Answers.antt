@@ -1,45 +1,36 @@
 -- `steps::fixed_room` meets its contract. Assumes nothing.
-use mathlib.Core.Path.{◌≡◌}
-use mathlib.Core.Bool.{true, false}
-use Prim.Native.Nat.{ℕ, suc, ◌+◌, ◌<◌, ◌≤◌}
-use native.Mathlib.Omega.{arith}
+use mathlib.Core.Path.{◌≡◌, refl, sym, ◌∙◌}
+use mathlib.Core.Bool.{Bool, true, false, cond}
+use Prim.Native.Nat.{ℕ, suc}
 use lib.Dec.{eqb}
-use lib.ListN.{drop}
-use borrow.Author.Tests.{eq-eqb, ne_eqb}
-use Rattle.lists.proofs.Turns.{drop_turn, drop_none}
-use Rattle.watches.specs.Tables.{fixed_count, fixed_tables, pmt_table, table_of}
+use borrow.Author.Tests.{tests}
+use Rattle.std.specs.Option.{option_map}
+use Rattle.std.proofs.Common.{rules, Option, Some, None}
+use Rattle.std.proofs.lemmas.Iterator.{YieldsList-from_range}
+use Rattle.std.proofs.lemmas.Iterator.Search.{find_from_yields_List}
+use Rattle.watches.specs.Tables.{fixed_count, table_of}
 use Rattle.calls.specs.Cores.{fixed_room}
-use Rattle.steps.proofs.Rooms.{within_here, within_none}
+use Rattle.arrays.specs.inner.Kept.{within}
 use Rattle.steps.proofs.fixed_room.Goals as goal
 
--- the table at hand has the PID, or the search goes on
-here : (q k : ℕ) → k < fixed_count → eqb (table_of k).pid q ≡ true → fixed_room q (drop k fixed_tables) ≡ 0
-unfolding fixed_room
-here q k h e = rw (drop_turn fixed_tables k pmt_table h, e)
+as_found : (o : Option ℕ) → option_map (λ k. k) o ≡ o
+as_found (Some k) = refl
+as_found None = refl
 
-on : (q k : ℕ) → k < fixed_count → eqb (table_of k).pid q ≡ false → fixed_room q (drop k fixed_tables) ≡ suc (fixed_room q (drop (k + 1) fixed_tables))
-unfolding fixed_room
-on q k h e = rw (drop_turn fixed_tables k pmt_table h, e)
-
-none : (q k : ℕ) → fixed_count ≤ k → fixed_room q (drop k fixed_tables) ≡ 0
-unfolding fixed_room
-none q k h = rw (drop_none fixed_tables k h)
-
-pub returns-then-table_of-pid : goal.returns-then-table_of-pid
-returns-then-table_of-pid c =
-    let loop = c.loop-k in
-    let q = c.args.pid in
-    let e : eqb (table_of loop.k).pid q ≡ true = eq-eqb _ _ (rw c.table_of.ensures at c.if-table_of-pid.true) in
-    within_here fixed_count (fixed_room q fixed_tables) loop.k (omega (arith, loop.invariant, here q loop.k c.loop-k-test.true e)) c.loop-k-test.true
-
-pub loop-k-preserved : goal.loop-k-preserved
-loop-k-preserved c =
-    let loop = c.loop-k in
-    let q = c.args.pid in
-    let e : eqb (table_of loop.k).pid q ≡ false = ne_eqb _ _ (rw c.table_of.ensures at c.if-table_of-pid.false) in
-    omega (arith, loop.invariant, on q loop.k c.loop-k-test.true e)
+-- the first of the five tables that has the PID, by what each one says
+first_of : (a b c d e : Bool)
+    → cond a (Some 0) (cond b (Some 1) (cond c (Some 2) (cond d (Some 3) (cond e (Some 4) None))))
+    ≡ within fixed_count (cond a 0 (suc (cond b 0 (suc (cond c 0 (suc (cond d 0 (suc (cond e 0 (suc 0))))))))))
+first_of true b c d e = refl
+first_of false true c d e = refl
+first_of false false true d e = refl
+first_of false false false true e = refl
+first_of false false false false true = refl
+first_of false false false false false = refl
 
 pub returns : goal.returns
+unfolding fixed_room
 returns c =
-    let q = c.args.pid in
-    within_none fixed_count (fixed_room q fixed_tables) (omega (arith, c.loop-k.invariant, none q c.loop-k.k (omega arith)))
+    sym (as_found c.find.result)
+    ∙ find_from_yields_List (λ k. eqb (table_of k).pid c.args.pid) _ _ _ c.find.ensures.ran (YieldsList-from_range 0 fixed_count fixed_count refl refl) (λ x b q k. search (rules, tests))
+    ∙ first_of _ _ _ _ _

@@ -22,8 +22,8 @@ judge-j-requires c =
     let f = fields start.args.seen.header start.args.seen.packet.now start.requires.read_off.0.header in
     omega (arith, f.counter, counter_small start.args.seen.packet.now)
 
-pub drop_room-requires : goal.drop_room-requires
-drop_room-requires c =
+pub keep_room-requires : goal.keep_room-requires
+keep_room-requires c =
     let args = c.args in
     within_below room_count (room_for (core_in args.times.now args.words.now) args.seen.header.pid) c.room_for-room.result (c.room_for-room.ensures args.times.now)
 
@@ -39,7 +39,7 @@ returns-then-h c =
     let verdict = rw (start.requires.read_off.0.byte, start.requires.read_off.0.header) at j.ensures in
     let room = rw f.pid at (c.room_for-room.ensures times) in
     let said = rw f.pid at c.tell_continuity-next.ensures in
-    let dropped = c.drop_room.ensures in
+    let dropped = c.keep_room.ensures in
     let more = rw f.pid at (c.judge_scrambled-last.ensures.0 times) in
     let w = laid_turn numbers_of record_width (λ e. refl) _ _ _ _ _ _ _ _ said.0 said.1 more.0 more.1 in
     let same = ap (λ k. held k args.memory.now) (dropped.0 times (room_for core (pid_of packet)) room) in record {

@@ -51,13 +51,12 @@ judge_late-late-requires c =
     let h = sound_parts s memory a.sound in
     (h.count, h.since, entry_since s memory h)
 
-pub judge_packet-n-requires-clause-sized : goal.judge_packet-n-requires-clause-sized
+pub judge_packet-n-requires-clause-judgeable : goal.judge_packet-n-requires-clause-judgeable
 unfolding state_in
-judge_packet-n-requires-clause-sized c =
+judge_packet-n-requires-clause-judgeable c =
     let args = c.args in
     let times = args.times.now in
     let words = args.words.now in
-    let sized : Sized times words = record { long = omega arith; wide = omega arith } in
     let packet = args.packet.now in
     let counters = args.counters.now in
     let memory = args.memory.now in
@@ -65,22 +64,19 @@ judge_packet-n-requires-clause-sized c =
     let e : packet_refusal s args.time packet counters memory args.capacity ≡ 0 = right_passed s args.time packet counters memory args.capacity c.requires.0 ∙ ap (state_refusal s args.time memory) (sym c.requires.1.byte) ∙ sym c.in_ok-check_state.ensures in
     let a = packet_accepted s args.time packet counters memory args.capacity e in
     let h = sound_parts s memory a.sound in
-    let l = c.judge_late-late.ensures in (
-      sized,
-      record {
-        ready =
-            record {
-              packet = a.packet;
-              whole = omega arith;
-              listed = h.count;
-              sound = sound_rooms s memory a.sound;
-              places = omega (arith, l.2);
-              numbers = omega (arith, ap length l.1 ∙ laid_length _ _ _ _ _);
-            };
-        table = a.table;
-        run = sound_run s memory h;
-      },
-    )
+    let l = c.judge_late-late.ensures in record {
+      ready =
+          record {
+            packet = a.packet;
+            whole = omega arith;
+            listed = h.count;
+            sound = sound_rooms s memory a.sound;
+            places = omega (arith, l.2);
+            numbers = omega (arith, ap length l.1 ∙ laid_length _ _ _ _ _);
+          };
+      table = a.table;
+      run = sound_run s memory h;
+    }
 
 pub returns : goal.returns
 unfolding header_of state_in

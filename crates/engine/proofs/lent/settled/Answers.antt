@@ -1,11 +1,9 @@
 -- `engine::lent/settled` meets its contract. Assumes nothing.
 use Rattle.std.proofs.Common.{rules}
-use native.Mathlib.Omega.{arith}
 use mathlib.Core.Path.{◌≡◌, sym}
 use Rattle.std.specs.Prelude.{Err}
 use Rattle.calls.proofs.Accepted.{clock_accepted, sound_parts, entry_since}
 use Rattle.arrays.specs.Lent.{state_in}
-use Rattle.arrays.specs.inner.Kept.{Sized}
 use Rattle.checks.specs.Refusals.{refusal_number}
 use Rattle.checks.proofs.Ladders.{number_given}
 use Rattle.engine.proofs.Ends.{sound_run, clock_refused, clock_done}
@@ -37,11 +35,10 @@ settle-requires c =
     let args = c.args in
     let times = args.times.now in
     let words = args.words.now in
-    let sized : Sized times words = record { long = omega arith; wide = omega arith } in
     let e = sym c.in_ok-check_clock.ensures in
     let a = clock_accepted (state_in times words) args.time args.memory.now args.capacity e in
     let h = sound_parts (state_in times words) args.memory.now a.sound in
-    (sized.long, sized.wide, h.count, sound_run (state_in times words) args.memory.now h)
+    (h.count, sound_run (state_in times words) args.memory.now h)
 
 pub returns : goal.returns
 returns c =
