@@ -69,12 +69,7 @@ fn number_among(number: u16, times: &[u64], words: &[u16], count: usize, start: 
     requires { (core_time_count ≤ length times.now) × (core_word_count ≤ length words.now) × (count ≤ most_listed) × (start ≤ count) }
     ensures { result ≡ number_among number (drop start (take count (entries_in times.now words.now))) }
 {
-    for i in start..count {
-        if arrays::entry_at(times, words, i).number == number {
-            return true;
-        }
-    }
-    false
+    (start..count).any(|i| arrays::entry_at(times, words, i).number == number)
 }
 
 // Whether each listed entry is sound and its number not listed again. Numbers are told apart by their remainder
