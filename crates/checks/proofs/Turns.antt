@@ -1,6 +1,6 @@
 -- The check of the state, one turn of each loop at a time: what is still to be checked begins with what is at hand. Assumes nothing.
 use mathlib.Core.Path.{◌≡◌, refl, sym, ap, ◌∙◌}
-use mathlib.Core.Bool.{Bool, true, false, ◌&&◌, and-false}
+use mathlib.Core.Bool.{Bool, true, false, cond, ◌&&◌, ◌||◌, and-false}
 use mathlib.Core.List.{List, [], ◌∷◌, ◌++◌}
 use Prim.Native.Nat.{ℕ, zero, suc, ◌+◌, ◌-◌, ◌≤◌, ◌<◌}
 use native.Mathlib.Omega.{arith}
@@ -9,7 +9,7 @@ use lib.ListN.{length, get_or, take, drop, length-drop}
 use lib.Seq.{take_all}
 use borrow.Author.Tests.{lt-leb, le-leb}
 use Rattle.std.specs.Bool.{MatchBool}
-use Rattle.std.specs.List.{AllWithin, HoldsAt}
+use Rattle.std.specs.List.{AllWithin, HoldsAt, list_any, range_with_len}
 use Rattle.lists.specs.Places.{part}
 use Rattle.lists.proofs.Tests.{Order, below, from, order}
 use Rattle.lists.proofs.Turns.{left_turn, left_none}
@@ -51,15 +51,6 @@ none_push (m ∷ ns) n = rw (none_push ns n) (grouped (eqb m 0) (none_half ns) (
 
 -- ENTRIES
 module _ (es : List Entry) (count i : ℕ) (fits : count ≤ length es) where
-  pub among_here : (n : ℕ) → i < count → eqb (get_or es i no_entry).number n ≡ true → number_among n (drop i (take count es)) ≡ true
-  unfolding number_among
-  among_here n h e = rw (left_turn es count i no_entry h fits, e)
-
-  pub among_on : (n : ℕ) → i < count → eqb (get_or es i no_entry).number n ≡ false
-      → number_among n (drop i (take count es)) ≡ number_among n (drop (i + 1) (take count es))
-  unfolding number_among
-  among_on n h e = rw (left_turn es count i no_entry h fits, e)
-
   pub among_none : (n : ℕ) → count ≤ i → number_among n (drop i (take count es)) ≡ false
   unfolding number_among
   among_none n h = rw (left_none es count i h fits)
@@ -81,6 +72,18 @@ module _ (es : List Entry) (count i : ℕ) (fits : count ≤ length es) where
   pub entries_none : count ≤ i → entries_sound (drop i (take count es)) ≡ true
   unfolding entries_sound
   entries_none h = rw (left_none es count i h fits)
+
+-- a look at each of them tells whether a number is among them
+module _ (es : List Entry) (count n : ℕ) (entry : ℕ → Entry) (fits : count ≤ length es) (same : (i : ℕ) → i < count → get_or es i no_entry ≡ entry i) where
+  pub among_any : (k i : ℕ) → i + k ≡ count → list_any (λ (j : ℕ). eqb (entry j).number n) (range_with_len i k) ≡ number_among n (drop i (take count es))
+  unfolding number_among
+  among_any zero i e = sym (among_none es count i fits n (omega arith))
+  among_any (suc k) i e =
+      rw (left_turn es count i no_entry (omega arith) fits, same i (omega arith)) (go (eqb (entry i).number n) (among_any k (i + 1) (omega arith)))
+    where
+      go : (b : Bool) {x y : Bool} → x ≡ y → (b || x) ≡ cond b true y
+      go true h = refl
+      go false h = h
 
 -- ROOMS
 module _ (ns m : List ℕ) (r left : ℕ) where
