@@ -56,11 +56,12 @@ fn times_sound(since: &[u64]) -> bool
     since.iter().all(|&t| t <= LATEST_TIME)
 }
 
-// Whether a listed entry has a number, a PID within the bounds, and a gap start not above 2^62.
+// Whether a listed entry has a number, a PID within the bounds, and a gap start not above 2^62. All four are looked at, with
+// one branch behind them.
 fn entry_sound(e: Entry) -> bool
     ensures { result ≡ entry_sound e }
 {
-    !(e.number == 0) & (LOWEST_PID <= e.pid) & (e.pid <= GREATEST_PID) & (e.since <= LATEST_TIME)
+    (e.number != 0) & (LOWEST_PID <= e.pid) & (e.pid <= GREATEST_PID) & (e.since <= LATEST_TIME)
 }
 
 // Whether a number is that of a listed entry from the place `start` on.
@@ -69,12 +70,7 @@ fn number_among(number: u16, times: &[u64], words: &[u16], count: usize, start: 
     requires { (core_time_count ≤ length times.now) × (core_word_count ≤ length words.now) × (count ≤ most_listed) × (start ≤ count) }
     ensures { result ≡ number_among number (drop start (take count (entries_in times.now words.now))) }
 {
-    for i in start..count {
-        if arrays::entry_at(times, words, i).number == number {
-            return true;
-        }
-    }
-    false
+    (start..count).any(|i| arrays::entry_at(times, words, i).number == number)
 }
 
 // Whether each listed entry is sound and its number not listed again. Numbers are told apart by their remainder
@@ -89,7 +85,7 @@ fn entries_sound(times: &[u64], words: &[u16], count: usize) -> bool
         if !entry_sound(e) {
             return false;
         }
-        let mark = (e.number % 64) as usize;
+        let mark = usize::from(e.number % 64);
         if marks[mark] && number_among(e.number, times, words, count, i + 1) {
             return false;
         }
@@ -115,10 +111,9 @@ fn room_sound(memory: &[u8; MEMORY], room: usize, half: u16) -> bool
         return true;
     }
     let base = sections::room_base(room);
-    let n = (half as usize).min(memory.len() - base);
+    let n = usize::from(half).min(memory.len() - base);
     let top = sections::greatest_length(room);
-    let stage = sections::stage_of(&memory[base..base + n], top);
-    sections::is_more(stage)
+    sections::is_more(sections::stage_of(&memory[base..base + n], top))
 }
 
 // Whether nothing is half-built. All lengths are looked at: a loop without a way out is done many at a time.
@@ -146,16 +141,11 @@ pub fn rooms_sound(half: &[u16], memory: &[u8; MEMORY]) -> bool
     requires { length half.now ≡ room_count }
     ensures { result ≡ rooms_sound half.now memory.now }
 {
-    if none_half(half) {
-        return true;
-    }
-    let top = rooms_used(half);
-    for room in 0..top {
-        if !room_sound(memory, room, half[room]) {
-            return false;
-        }
-    }
-    true
+    none_half(half)
+        || half[..rooms_used(half)]
+            .iter()
+            .enumerate()
+            .all(|(room, &n)| room_sound(memory, room, n))
 }
 
 // The rest of the state behind its list: a run of sync bytes that these calls leave, half-built bytes still to be built on.

@@ -1,10 +1,9 @@
 -- Half-built sections that stay with their PIDs when a list is read. Assumes nothing.
 use mathlib.Core.Path.{◌≡◌, refl, sym, ap, ◌∙◌}
 use mathlib.Core.Bool.{Bool, true, false, cond, ◌&&◌}
-use mathlib.Core.List.{List, [], ◌∷◌, ◌++◌, map, append-nil}
+use mathlib.Core.List.{List, ◌++◌, map, append-nil}
 use Prim.Native.Nat.{ℕ, zero, suc, ◌+◌, ◌-◌, ◌≤◌, ◌<◌}
 use native.Mathlib.Nat.{add-zero, le_of_suc-le-suc, not-suc-le-zero}
-use native.Mathlib.Numerals.{add-one}
 use native.Mathlib.Omega.{arith}
 use lib.Dec.{ltb, eqb}
 use borrow.Rule.Slice.PartMut.{put_mid}
@@ -12,12 +11,11 @@ use Rattle.std.specs.Prelude.{Some, None}
 use Rattle.std.specs.List.{range_with_len}
 use Rattle.std.proofs.lemmas.List.{ext_get_or}
 use lib.ListN.{length, get_or, take, drop, drop_of_length-le, length-drop, length-append, get_or-append}
-use lib.Seq.{sets, set-get_or, get_or-take, get_or-append-add, length-take-le, sets-eq}
+use lib.Seq.{sets, get_or-take, get_or-append-add, length-take-le}
 use borrow.Author.Tests.{ltb-true, ltb-false}
 use Rattle.lists.specs.Places.{part}
 use Rattle.lists.proofs.Tests.{and_left, Order, below, from, order}
 use Rattle.lists.proofs.Places.{part_back}
-use Rattle.lists.proofs.Laying.{sets_append}
 use Rattle.watches.specs.declared.Entry.{Entry}
 use Rattle.sections.specs.Rooms.{memory_size, room_of_place, room_base, half_built}
 use Rattle.sections.proofs.Stages.{place_fits}

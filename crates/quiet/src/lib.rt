@@ -21,7 +21,7 @@ use calls::{GREATEST_PID, State};
 use header::{Header, SYNC_BYTE};
 use programmes::{LOWEST_PID, MOST_LISTED, NULL_PID};
 use sections::MEMORY;
-use standing::{Standing, View};
+use standing::{Standing, Value, View};
 use watches::{
     EIT_LIMIT, Entry, LATEST_TIME, NIT_LIMIT, PAT_LIMIT, PMT_LIMIT, SDT_LIMIT, TDT_LIMIT,
 };
@@ -63,7 +63,7 @@ fn entry_quiet(e: Entry, p: u64, t: u64, q: u16) -> bool
 
 // Whether the listed entries are, with no two numbers of the same remainder.
 fn entries_quiet<S: Standing>(standing: &S, count: usize, p: u64, t: u64, q: u16) -> bool
-    requires { (count ≤ most_listed) × (length (S.state standing.now).core.entries ≡ most_listed) }
+    requires { count ≤ most_listed }
     ensures { result ≡ entries_quiet p t q unmarked (take count (S.state standing.now).core.entries) }
 {
     let mut marks = [false; 64];
@@ -106,7 +106,6 @@ fn rest_quiet(half: &[u16], memory: &[u8; MEMORY]) -> bool
 // Whether the state is quiet for a packet of the PID q.
 #[tactic(auto, unfolding(crate::specs::inner::Quiet::state_quiet))]
 fn state_quiet<S: Standing>(standing: &S, memory: &[u8; MEMORY], t: u64, q: u16) -> bool
-    requires { length (S.state standing.now).core.entries ≡ most_listed }
     ensures { result ≡ state_quiet (S.state standing.now) memory.now t q }
 {
     let count = standing.count();
@@ -164,7 +163,7 @@ fn glance<S: Standing>(
     h: Header,
     byte: u8,
 ) -> Option<u8>
-    requires { (length (S.state standing.now).core.entries ≡ most_listed) × (length packet.now ≡ packet_size) × (h ≡ header_of packet.now) }
+    requires { (length packet.now ≡ packet_size) × (h ≡ header_of packet.now) }
     ensures { result ≡ glance_of (quiet_call (S.state standing.now) memory.now time packet.now byte) packet.now byte }
 {
     let left = count_quiet(packet, h, byte)?;
@@ -204,5 +203,5 @@ pub fn quiet_value(
     requires { (length packet.now ≡ packet_size) × (h ≡ header_of packet.now) }
     ensures { result ≡ glance_of (quiet_call state memory.now time packet.now byte) packet.now byte }
 {
-    glance(&state, memory, time, packet, h, byte)
+    glance(&Value { state: &state }, memory, time, packet, h, byte)
 }

@@ -5,6 +5,8 @@ ghost use Rattle.sections.specs.Rooms.{room_count};
 ghost use Rattle.programmes.specs.Listing.{most_listed};
 ghost use Rattle.calls.specs.declared.State.{State};
 ghost use Rattle.arrays.specs.Lent.{state_in, core_time_count, core_word_count};
+ghost use Rattle.arrays.specs.inner.Kept.{Typed};
+ghost use Rattle.quiet.specs.inner.Places.{state_places};
 
 use arrays::LATEST;
 use calls::State;
@@ -34,6 +36,9 @@ pub(crate) trait Standing {
     fn entry(&self, k: usize) -> Entry
         requires { k < most_listed }
         ensures { result ≡ get_or (state self.now).core.entries k no_entry };
+
+    // A state has sixteen places.
+    ghost places: { (x : Self) → length (state x).core.entries ≡ most_listed };
 }
 
 // The two lent arrays.
@@ -47,6 +52,8 @@ pub(crate) struct View<'a> {
 #[tactic(auto, unfolding(arrays::specs::Lent::state_in))]
 impl Standing for View<'_> {
     ghost state = { λ v. state_in v.times.now v.words.now };
+
+    ghost places = { λ v. state_places v.times.now v.words.now };
 
     fn latest(&self) -> u64 {
         self.times[LATEST]
@@ -77,34 +84,43 @@ impl Standing for View<'_> {
     }
 }
 
-impl Standing for State {
-    ghost state = { λ s. s };
+// A state by value.
+#[derive(Clone, Copy)]
+pub(crate) struct Value<'a> {
+    pub state: &'a State,
+    ghost typed: { Typed state.now },
+}
+
+impl Standing for Value<'_> {
+    ghost state = { λ v. v.state.now };
+
+    ghost places = { λ v. v.typed.places };
 
     fn latest(&self) -> u64 {
-        self.latest
+        self.state.latest
     }
 
     fn lost(&self) -> bool {
-        self.core.lost
+        self.state.core.lost
     }
 
     fn run(&self) -> u8 {
-        self.core.run
+        self.state.core.run
     }
 
     fn count(&self) -> usize {
-        self.core.count
+        self.state.core.count
     }
 
     fn gaps(&self) -> &[u64] {
-        &self.core.since
+        &self.state.core.since
     }
 
     fn halves(&self) -> &[u16] {
-        &self.core.half
+        &self.state.core.half
     }
 
     fn entry(&self, k: usize) -> Entry {
-        self.core.entries[k]
+        self.state.core.entries[k]
     }
 }

@@ -77,10 +77,10 @@ loop-i-preserved c =
     let once : number_among e.number (rest (i + 1)) ≡ false =
     elim c.else-marks-mark.branch [
       | else-marks-mark-via-then-marks-mark+else-number_among w ↦ sym w.number_among.ensures ∙ w.if-number_among.false
-      | else-marks-mark-via-else-marks-mark w ↦ unmarked_none loop.marks (rest (i + 1)) e.number marked w.if-marks-mark.false
+      | else-marks-mark-via-else-marks-mark w ↦ unmarked_none loop.marks (rest (i + 1)) e.number marked (rw c.from-mark.ensures at w.if-marks-mark.false)
     ] in (
       length-set loop.marks _ _ ∙ loop.invariant.0,
-      subst (λ (x : Entry). Marked (set loop.marks (x.number % 64) true) (rest i)) same (marked_turn es count i fits loop.marks (omega arith) loop.invariant.0 marked),
+      rw c.from-mark.ensures (subst (λ (x : Entry). Marked (set loop.marks (x.number % 64) true) (rest i)) same (marked_turn es count i fits loop.marks (omega arith) loop.invariant.0 marked)),
       entries_on es count i fits (omega arith) here (rw same once) ∙ ap (λ (j : ℕ). entries_sound (rest j)) (sym next) ∙ loop.invariant.2,
     )
 

@@ -30,5 +30,5 @@ returns c =
     let base = c.room_base-base in
     let m = args.memory.now in
     let cut = part_lent m base.result least.result ∙ part_cut m base.result args.half least.result (omega (arith, least.ensures)) (λ l. omega (arith, least.ensures, l)) in
-    let stage = rw (cut, base.ensures, c.greatest_length-top.ensures) at c.stage_of-stage.ensures in
+    let stage = rw (cut, base.ensures, c.greatest_length-top.ensures) at c.stage_of.ensures in
     c.is_more.ensures ∙ ap is_more stage

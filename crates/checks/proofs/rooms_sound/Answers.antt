@@ -1,54 +1,35 @@
 -- `checks::rooms_sound` meets its contract. Assumes nothing.
-use borrow.Author.Rules.{rules}
-use mathlib.Core.Path.{◌≡◌, refl, sym, ap, ◌∙◌}
-use Prim.Native.Nat.{ℕ, ◌+◌, ◌-◌}
+use mathlib.Core.Path.{◌≡◌, sym, ap, ◌∙◌}
+use Prim.Native.Nat.{ℕ, ◌-◌}
 use native.Mathlib.Omega.{arith}
+use native.Mathlib.Nat.{zero-add}
+use lib.ListN.{length, get_or, take}
+use lib.Seq.{get_or-take, length-take-le}
+use borrow.Author.Tests.{tests}
+use Rattle.std.proofs.Common.{rules}
+use Rattle.std.proofs.lemmas.Iterator.{YieldsList-from_slice}
+use Rattle.std.proofs.lemmas.Iterator.Consumers.{YieldsList-from_enumerate}
+use Rattle.std.proofs.lemmas.Iterator.Search.{all_from_yields_List}
+use Rattle.sections.specs.Rooms.{greatest_length, half_built}
+use Rattle.sections.specs.Section.{stage_of, is_more}
 use Rattle.calls.specs.Sound.{rooms_from}
-use Rattle.checks.proofs.Turns.{rooms_turn}
 use Rattle.checks.proofs.Rooms.{none_rooms}
+use Rattle.checks.proofs.Turns.{rooms_all, rooms_front}
 use Rattle.checks.proofs.rooms_sound.Goals as goal
 
 pub returns-then-none_half : goal.returns-then-none_half
-returns-then-none_half c = sym (none_rooms _ c.args.memory.now (sym c.none_half.ensures ∙ c.if-none_half.true))
+returns-then-none_half c = c.if-none_half.true ∙ sym (none_rooms _ c.args.memory.now (sym c.none_half.ensures ∙ c.if-none_half.true))
 
-pub loop-room-init : goal.loop-room-init
-loop-room-init c = refl
-
-pub offset_bounds-half-room : goal.offset_bounds-half-room
-offset_bounds-half-room c =
-    let most = c.rooms_used-top.ensures.0 in
-    search (rules, most)
-
-pub bounds-half-room : goal.bounds-half-room
-bounds-half-room c =
-    let most = c.rooms_used-top.ensures.0 in
-    search (rules, most)
-
-pub room_sound-requires : goal.room_sound-requires
-room_sound-requires c =
-    let most = c.rooms_used-top.ensures.0 in
-    search (rules, most)
-
-pub returns-then-not-room_sound : goal.returns-then-not-room_sound
-returns-then-not-room_sound c =
-    let a = c.args in
-    let loop = c.loop-room in
-    let most = c.rooms_used-top.ensures.0 in
-    let here = sym c.room_sound.ensures ∙ c.if-not-room_sound.true in
-    sym (loop.invariant ∙ rooms_turn a.half.now a.memory.now loop.room (21 - loop.room) (21 - (loop.room + 1)) (omega (arith, most, c.loop-room-test.true)) ∙ rw here)
-
-pub loop-room-preserved : goal.loop-room-preserved
-loop-room-preserved c =
-    let a = c.args in
-    let loop = c.loop-room in
-    let most = c.rooms_used-top.ensures.0 in
-    let here = sym c.room_sound.ensures ∙ c.if-not-room_sound.false in
-    loop.invariant ∙ rooms_turn a.half.now a.memory.now loop.room (21 - loop.room) (21 - (loop.room + 1)) (omega (arith, most, c.loop-room-test.true)) ∙ rw here
-
-pub returns : goal.returns
-returns c =
-    let a = c.args in
-    let loop = c.loop-room in
-    let used = c.rooms_used-top in
-    let at : loop.room ≡ used.result = omega (arith, used.ensures.0) in
-    sym (loop.invariant ∙ ap (λ (r : ℕ). rooms_from a.half.now a.memory.now r (21 - r)) at ∙ used.ensures.1 a.memory.now)
+pub returns-else-none_half : goal.returns-else-none_half
+returns-else-none_half c =
+    let ns = c.args.half.now in
+    let m = c.args.memory.now in
+    let top = c.rooms_used.result in
+    let most = c.rooms_used.ensures.0 in
+    let us = take top ns in
+    let few : length us ≡ top = length-take-le top ns (omega (arith, most)) in
+    all_from_yields_List (λ (p : ℕ × ℕ). is_more (stage_of (greatest_length p.0) (half_built m p.0 p.1))) _ _ _ c.all.ensures.ran
+    (YieldsList-from_enumerate (YieldsList-from_slice us cc) cc) (λ x b q k. search (rules, tests))
+    ∙ rooms_all ns m us 0 (λ k l. get_or-take top ns k 0 (omega (arith, few)) ∙ ap (λ (j : ℕ). get_or ns j 0) (sym (zero-add k)))
+    ∙ ap (rooms_from ns m 0) few
+    ∙ sym (rooms_front ns m 0 top (21 - top) 21 (omega (arith, most)) (ap (λ (r : ℕ). rooms_from ns m r (21 - top)) (zero-add top) ∙ c.rooms_used.ensures.1 m))
