@@ -1,5 +1,5 @@
 // The state as a host lends it: two arrays, by the width of their numbers, and the way to and from the
-// state by value. What a call reads of them and moves in them is in `moves`.
+// state by value. What a call reads of them and moves in them is in `moves`. Public readers take slices, here as there.
 
 #![tactic(auto)]
 
@@ -55,8 +55,7 @@ pub const COUNT: usize = RUN + 1;
 pub const WORDS: usize = COUNT + 1;
 
 // The gap starts of the fixed tables.
-fn gaps_in(times: &[u64]) -> [u64; FIXED]
-    requires { core_time_count ≤ length times.now }
+fn gaps_in(times: &[u64; TIMES]) -> [u64; FIXED]
     ensures { result ≡ gaps_in times.now }
 {
     let mut out = [0u64; FIXED];

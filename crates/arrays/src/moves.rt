@@ -1,5 +1,5 @@
-// What a call reads of the lent arrays, and what it moves in them, one thing at a time. What only reads takes slices: a read asks
-// for the core's numbers or more, and may not ask for as many as an array type has.
+// What a call reads of the lent arrays, and what it moves in them, one thing at a time. What only reads takes slices: its clause
+// asks for the core's numbers or more, and may not ask for exactly as many, as an array type would.
 ghost use Rattle.std.specs.Prelude.{◌≡◌, ◌≤◌, ◌<◌, List, ℕ, length, set, replicate, eqb, position};
 ghost use Rattle.watches.specs.Tables.{fixed_count};
 ghost use Rattle.sections.specs.Rooms.{room_count};

@@ -6,7 +6,7 @@ use Prim.Native.Nat.{ℕ, ◌≤◌}
 use native.Mathlib.Omega.{arith}
 use lib.ListN.{length}
 use borrow.Author.Tests.{ne_eqb}
-use Rattle.sections.specs.Rooms.{room_count, room_of_place, room_base, greatest_length, half_built}
+use Rattle.sections.specs.Rooms.{memory_size, room_count, room_of_place, room_base, greatest_length, half_built}
 use Rattle.sections.specs.Section.{stage_of, is_more}
 use Rattle.sections.proofs.Stages.{half_short, room_fits}
 use Rattle.programmes.specs.Places.{half_at}
@@ -19,16 +19,16 @@ module _ {c : Core} {m : List ℕ} {r : ℕ} {s : List ℕ} {n : ℕ} {list : Li
   pub takable_more : is_more (stage_of (greatest_length r) (half_built m r (half_at c.half r))) ≡ true
   takable_more = rooms_at c.half m 0 room_count q.sound r (omega arith) q.room
 
-  pub takable_fit : 5 ≤ length c.half → Fit c m list
-  takable_fit rooms =
+  pub takable_fit : length m ≡ memory_size → 5 ≤ length c.half → Fit c m list
+  takable_fit whole rooms =
       record {
-        whole = q.whole;
+        whole = whole;
         listed = q.listed;
         rooms = rooms;
         halves = λ k h.
             let top : greatest_length (room_of_place k) ≡ 1021 = rw (ne_eqb (room_of_place k) 3 (λ e. omega arith)) in
             let fits = room_fits (room_of_place k) (omega arith) in
-            let short = half_short m (room_base (room_of_place k)) (greatest_length (room_of_place k)) (half_at c.half (room_of_place k)) (omega (arith, fits, q.whole)) (rooms_at c.half m 0 room_count q.sound (room_of_place k) (omega arith) (omega arith)) in
+            let short = half_short m (room_base (room_of_place k)) (greatest_length (room_of_place k)) (half_at c.half (room_of_place k)) (omega (arith, fits, whole)) (rooms_at c.half m 0 room_count q.sound (room_of_place k) (omega arith) (omega arith)) in
             omega (arith, short, top);
         numbers = q.numbers;
       }

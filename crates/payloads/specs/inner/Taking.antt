@@ -5,7 +5,7 @@
 --                           places for events from the place n on
 use Rattle.std.specs.Prelude.{◌≡◌, true, List, ℕ, ◌+◌, ◌≤◌, ◌<◌, length}
 use Rattle.events.specs.Capacity.{least_capacity, number_capacity}
-use Rattle.sections.specs.Rooms.{memory_size, room_count}
+use Rattle.sections.specs.Rooms.{room_count}
 use Rattle.programmes.specs.Listing.{most_listed}
 use Rattle.calls.specs.declared.Core.{Core}
 use Rattle.calls.specs.Cores.{Held}
@@ -15,7 +15,6 @@ abbrev pub held : Core → List ℕ → Held
 held c m = record { core = c; memory = m }
 
 pub record Takable (c : Core) (m : List ℕ) (r : ℕ) (s : List ℕ) (n : ℕ) (list : List ℕ) : Type 0 where
-  pub whole : length m ≡ memory_size
   pub room : r < room_count
   pub listed : c.count ≤ most_listed
   pub sound : rooms_sound c.half m ≡ true

@@ -63,7 +63,6 @@ take_course-requires c =
     let ready = start.requires.ready in record {
       ready = record {
         packet = ready.packet;
-        whole = ready.whole;
         listed = ready.listed;
         sound = ready.sound;
         places = omega (arith, said.2, ready.places);

@@ -39,7 +39,6 @@ judge_header-requires c =
     let right = right_sync packet in record {
       ready = record {
         packet = ready.packet;
-        whole = ready.whole;
         listed = omega (arith, ap (λ (k : Core). k.count) caught.core ∙ synced_count right core, ready.listed);
         sound = ap (λ (k : Core). rooms_sound k.half args.memory.now) caught.core ∙ synced_sound right core args.memory.now ready.sound;
         places = omega (arith, ready.places, caught.few);

@@ -50,7 +50,6 @@ take_payload-requires c =
     let below = c.requires.h_value.1 c.in-Some.room c.in-Some.is in
     let kept = c.keep_room.ensures.0 args.times.now c.in-Some.room (c.in-Some.is ∙ within_here room_count _ c.in-Some.room refl below) in
     let ready = c.requires.ready in record {
-      whole = ready.whole;
       room = below;
       listed = omega (arith, ap (λ (k : Core). k.count) kept ∙ kept_count args.j.keep (core_in args.times.now args.words.now) c.in-Some.room, ready.listed);
       sound = ap (λ (k : Core). rooms_sound k.half args.memory.now) kept ∙ kept_sound args.j.keep (core_in args.times.now args.words.now) c.in-Some.room args.memory.now ready.sound;

@@ -1,6 +1,6 @@
 -- One packet judged, as the code is given it and hands it back: document 01, "Judging one packet".
 --
---   Ready c m p list n most     == what a packet's steps are given: a whole packet and section memory, at most sixteen listed, every room sound, and
+--   Ready c m p list n most     == what a packet's steps are given: a whole packet, at most sixteen listed, every room sound, and
 --                                  `most` places for events from the place n on
 --   Judgeable c p counters m list n == what a packet is judged in: ready, a whole counter table, and a sync run of at most 4
 --   Done x most c table m before n after r == what the step x does, done: the core, the counter table and section memory that it leaves, and its
@@ -16,7 +16,6 @@ use Rattle.events.specs.Faults.{no_cause}
 use Rattle.events.specs.Events.{event_at, events_laid}
 use Rattle.events.specs.Capacity.{least_capacity, number_capacity}
 use Rattle.header.specs.Header.{packet_size, pid_of, unit_start, payload_of}
-use Rattle.sections.specs.Rooms.{memory_size}
 use Rattle.programmes.specs.Listing.{most_listed}
 use Rattle.calls.specs.declared.Core.{Core}
 use Rattle.calls.specs.Sync.{Synced}
@@ -27,7 +26,6 @@ use Rattle.calls.specs.Cores.{Held, dropped_room}
 
 pub record Ready (c : Core) (m p list : List ℕ) (n most : ℕ) : Type 0 where
   pub packet : length p ≡ packet_size
-  pub whole : length m ≡ memory_size
   pub listed : c.count ≤ most_listed
   pub sound : rooms_sound c.half m ≡ true
   pub places : n + most ≤ least_capacity

@@ -68,7 +68,6 @@ judge_packet-n-requires-clause-judgeable c =
       ready =
           record {
             packet = a.packet;
-            whole = omega arith;
             listed = h.count;
             sound = sound_rooms s memory a.sound;
             places = omega (arith, l.2);
