@@ -1,6 +1,7 @@
 // A packet call of which nothing is to be said, seen at a glance: most packets of a stream are elementary data of which
 // the engine only counts, and then the call is two stores. What is not seen at a glance is left to the call itself. The
-// state may stand in the lent arrays or be a value: `standing` has what is asked of it.
+// state may stand in the lent arrays or be a value: `standing` has what is asked of it. Where `&` and `|` join tests here, that is
+// meant: each is a comparison, and one branch behind them all is less than one for each.
 
 #![tactic(auto)]
 
@@ -31,11 +32,12 @@ fn gap_quiet(since: u64, limit: u64, p: u64, t: u64) -> bool
     requires { limit ≤ latest_time }
     ensures { result ≡ gap_quiet (limit ∷ []) p t since }
 {
-    if LATEST_TIME < since {
-        return false;
+    if since <= LATEST_TIME {
+        let stamp = since + limit;
+        !((p <= stamp) & (stamp < t))
+    } else {
+        false
     }
-    let stamp = since + limit;
-    !((p <= stamp) & (stamp < t))
 }
 
 // Whether those of the fixed tables are quiet, down the table.
@@ -54,10 +56,10 @@ fn tables_quiet(since: &[u64], p: u64, t: u64) -> bool
 fn entry_quiet(e: Entry, p: u64, t: u64, q: u16) -> bool
     ensures { result ≡ entry_quiet p t q e }
 {
-    !(e.number == 0)
+    (e.number != 0)
         & (LOWEST_PID <= e.pid)
         & (e.pid <= GREATEST_PID)
-        & !(e.pid == q)
+        & (e.pid != q)
         & gap_quiet(e.since, PMT_LIMIT, p, t)
 }
 
@@ -72,7 +74,7 @@ fn entries_quiet<S: Standing>(standing: &S, count: usize, p: u64, t: u64, q: u16
         if !entry_quiet(e, p, t, q) {
             return false;
         }
-        let mark = (e.number % 64) as usize;
+        let mark = usize::from(e.number % 64);
         if marks[mark] {
             return false;
         }
@@ -139,10 +141,7 @@ fn count_quiet(packet: &[u8], h: Header, byte: u8) -> Option<u8>
     requires { (length packet.now ≡ packet_size) × (h ≡ header_of packet.now) }
     ensures { result ≡ glance_of (count_quiet packet.now byte) packet.now byte }
 {
-    if !head_quiet(packet[0], h) {
-        return None;
-    }
-    if !continuity::known_byte(byte) {
+    if !head_quiet(packet[0], h) || !continuity::known_byte(byte) {
         return None;
     }
     if is_idle(h) {
@@ -167,11 +166,7 @@ fn glance<S: Standing>(
     ensures { result ≡ glance_of (quiet_call (S.state standing.now) memory.now time packet.now byte) packet.now byte }
 {
     let left = count_quiet(packet, h, byte)?;
-    if state_quiet(standing, memory, time, h.pid) {
-        Some(left)
-    } else {
-        None
-    }
+    state_quiet(standing, memory, time, h.pid).then_some(left)
 }
 
 // That of a call on lent arrays.

@@ -78,7 +78,8 @@ fn length_bad(top: usize, id: u8, second: u8, n: usize) -> bool
     n > top || (second >= 128 && n < 9) || (id == 0x73 && n < 4)
 }
 
-// section_length in the bytes s, of which there may be too few: `byte_at` reads 0 past them, so no slice pattern.
+// section_length in the bytes s. There may be too few, and `byte_at` reads 0 past them, as the definition does: from_be_bytes
+// over a pattern is no plainer.
 fn section_length(s: &[u8]) -> usize
     ensures { (result ≡ section_length s.now) × (result < 4096) }
 {
@@ -95,12 +96,12 @@ pub fn stage_of(s: &[u8], top: usize) -> Stage
     };
     let n = section_length(s);
     if length_bad(top, *id, *second, n) {
-        return Stage::Bad;
+        Stage::Bad
+    } else if s.len() < n + 3 {
+        Stage::More
+    } else {
+        Stage::Whole
     }
-    if s.len() < n + 3 {
-        return Stage::More;
-    }
-    Stage::Whole
 }
 
 // Whether a section is still to be built on.
@@ -179,7 +180,7 @@ pub fn lay(mem: &mut [u8; MEMORY], room: usize, half: usize, s: &[u8]) -> Laid
 fn right_id(room: usize) -> usize
     ensures { result ≡ right_id room }
 {
-    watches::table_of(room).id as usize
+    usize::from(watches::table_of(room).id)
 }
 
 // Whether the CRC_32 of a finished section is judged, and wrong.
@@ -198,9 +199,8 @@ fn is_good(s: &[u8], room: usize) -> bool
 {
     let second = octets::byte_at(s, 1);
     if octets::byte_at(s, 0) != right_id(room) {
-        return false;
-    }
-    if room == TDT_ROOM {
+        false
+    } else if room == TDT_ROOM {
         second < 128 && section_length(s) == 5
     } else {
         second >= 128 && octets::byte_at(s, 5) % 2 == 1
@@ -224,23 +224,20 @@ fn judge(s: &[u8], room: usize, pid: u16) -> Outcome
         cause,
         id: pid,
     };
+    let wrong = octets::byte_at(s, 0) != right_id(room);
     if crc_wrong(s) {
-        return fault(CRC_ERROR, NO_CAUSE);
-    }
-    let id = octets::byte_at(s, 0);
-    let wrong = id != right_id(room);
-    if room == PAT_ROOM && wrong {
-        return fault(PAT_ERROR, WRONG_TABLE);
-    }
-    if room >= FIXED && wrong {
-        return fault(PMT_ERROR, WRONG_TABLE);
-    }
-    if is_good(s, room) {
-        return Outcome::Good {
+        fault(CRC_ERROR, NO_CAUSE)
+    } else if room == PAT_ROOM && wrong {
+        fault(PAT_ERROR, WRONG_TABLE)
+    } else if room >= FIXED && wrong {
+        fault(PMT_ERROR, WRONG_TABLE)
+    } else if is_good(s, room) {
+        Outcome::Good {
             extension: extension_of(s),
-        };
+        }
+    } else {
+        Outcome::Silent
     }
-    Outcome::Silent
 }
 
 // What a section step says: nothing yet, or what the section at its end says.

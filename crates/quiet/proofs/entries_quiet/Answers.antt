@@ -24,7 +24,7 @@ returns-then-marks-mark g c =
     let es = (g.S.Standing.state a.standing.now).core.entries in
     let places = g.met.S.Standing.places a.standing.now in
     let here = sym c.entry_quiet.ensures ∙ c.if-not-entry_quiet.false in
-    sym (loop.invariant.1 ∙ entries_marked es a.count loop.k (omega (arith, places)) a.p a.t a.q loop.marks c.entry-e.result (omega arith) (sym c.entry-e.ensures) here c.if-marks-mark.true)
+    sym (loop.invariant.1 ∙ entries_marked es a.count loop.k (omega (arith, places)) a.p a.t a.q loop.marks c.entry-e.result (omega arith) (sym c.entry-e.ensures) here (rw c.from-mark.ensures at c.if-marks-mark.true))
 
 pub loop-k-preserved : goal.loop-k-preserved
 loop-k-preserved g c =
@@ -33,7 +33,7 @@ loop-k-preserved g c =
     let es = (g.S.Standing.state a.standing.now).core.entries in
     let places = g.met.S.Standing.places a.standing.now in
     let here = sym c.entry_quiet.ensures ∙ c.if-not-entry_quiet.false in
-    (length-set loop.marks _ _ ∙ loop.invariant.0, loop.invariant.1 ∙ entries_on es a.count loop.k (omega (arith, places)) a.p a.t a.q loop.marks c.entry-e.result (omega arith) (sym c.entry-e.ensures) here c.if-marks-mark.false)
+    (length-set loop.marks _ _ ∙ loop.invariant.0, loop.invariant.1 ∙ rw c.from-mark.ensures (entries_on es a.count loop.k (omega (arith, places)) a.p a.t a.q loop.marks c.entry-e.result (omega arith) (sym c.entry-e.ensures) here (rw c.from-mark.ensures at c.if-marks-mark.false)))
 
 pub returns : goal.returns
 returns g c =

@@ -14,11 +14,11 @@ none_kept : (b : Bool) (stamp : ℕ) → not b ≡ none (keep b stamp [])
 none_kept true stamp = refl
 none_kept false stamp = refl
 
-pub returns-then-since-gt-LATEST_TIME : goal.returns-then-since-gt-LATEST_TIME
-returns-then-since-gt-LATEST_TIME c = rw (lt-leb _ _ c.if-since-gt-LATEST_TIME.true)
-
-pub returns : goal.returns
-returns c =
+pub returns-then-since-le-LATEST_TIME : goal.returns-then-since-le-LATEST_TIME
+returns-then-since-le-LATEST_TIME c =
     let args = c.args in
     let stamp = args.since + args.limit in
-    rw (le-leb _ _ c.if-since-gt-LATEST_TIME.false) (none_kept (leb args.p stamp && ltb stamp args.t) stamp)
+    rw (le-leb _ _ c.if-since-le-LATEST_TIME.true) (none_kept (leb args.p stamp && ltb stamp args.t) stamp)
+
+pub returns-else-since-le-LATEST_TIME : goal.returns-else-since-le-LATEST_TIME
+returns-else-since-le-LATEST_TIME c = rw (lt-leb _ _ c.if-since-le-LATEST_TIME.false)
