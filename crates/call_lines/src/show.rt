@@ -5,56 +5,45 @@ ghost use Rattle.call_lines.specs.inner.Marks.{marked};
 use calls::{Answer, State};
 use events::{Event, LEAST_CAPACITY};
 use sections::MEMORY;
-use std::fmt::Display;
 use std::io;
-use std::io::{Error, Print, Stdout, Write};
+use std::io::{Stdout, Write};
 
 // Where lines go. Behind a write that failed nothing more is written; `end` says why, and cannot be left out.
 pub struct Lines {
     out: Stdout,
-    failed: Option<Error>,
+    written: io::Result<()>,
 }
 
 impl Lines {
     pub fn new(out: Stdout) -> Lines {
-        Lines { out, failed: None }
-    }
-
-    fn put<D: Display + Drop>(&mut self, value: D) {
-        if self.failed.is_some() {
-            return;
-        }
-        if let Err(why) = self.out.print(value) {
-            self.failed = Some(why);
+        Lines {
+            out,
+            written: Ok(()),
         }
     }
 
-    fn put_bytes(&mut self, bytes: &[u8]) {
-        if self.failed.is_some() {
-            return;
-        }
-        if let Err(why) = self.out.write_all(bytes) {
-            self.failed = Some(why);
+    fn put<W: FnOnce(&mut Stdout) -> io::Result<()>>(&mut self, write: W)
+        requires { W.IsAlwaysCallable write }
+    {
+        if self.written.is_ok() {
+            self.written = write(&mut self.out);
         }
     }
 
     // Whether all of it was written.
     pub fn end(self) -> io::Result<()> {
-        let Lines { out: _, failed } = self;
-        match failed {
-            Some(why) => Err(why),
-            None => Ok(()),
-        }
+        let Lines { out: _, written } = self;
+        written
     }
 }
 
 pub fn text(lines: &mut Lines, s: &[u8]) {
-    lines.put_bytes(s);
+    lines.put(|out| out.write_all(s));
 }
 
 // A space and a number.
 pub fn number(lines: &mut Lines, n: u64) {
-    lines.put(format_args!(" {n}"));
+    lines.put(|out| write!(out, " {n}"));
 }
 
 // What the records hold before a call.
@@ -71,7 +60,11 @@ pub(crate) fn mark() -> Event
 
 // Stamp and cause decimal, fault and id four hex digits.
 fn event(lines: &mut Lines, e: Event) {
-    lines.put(format_args!("  {} {:04x} {} {:04x}\n", e.stamp, e.fault, e.cause, e.id));
+    lines.put(|out| write!(
+        out,
+        "  {} {:04x} {} {:04x}\n",
+        e.stamp, e.fault, e.cause, e.id
+    ));
 }
 
 // The first n records, and whether the others are untouched.
@@ -88,15 +81,15 @@ pub fn events(lines: &mut Lines, list: [Event; LEAST_CAPACITY], n: usize) {
 pub fn answer(lines: &mut Lines, a: Answer) {
     let s = a.state;
     let c = s.core;
-    lines.put(format_args!(": refusal {} n {}", a.refusal, a.n));
-    lines.put(format_args!(" latest {} lost {}", s.latest, u8::from(c.lost)));
-    lines.put(format_args!(" run {} count {}", c.run, c.count));
+    lines.put(|out| write!(out, ": refusal {} n {}", a.refusal, a.n));
+    lines.put(|out| write!(out, " latest {} lost {}", s.latest, u8::from(c.lost)));
+    lines.put(|out| write!(out, " run {} count {}", c.run, c.count));
 }
 
 // The half-built length of a room.
 pub(crate) fn half(lines: &mut Lines, s: State, room: usize) {
     if let Some(n) = s.core.half.get(room) {
-        lines.put(format_args!(" half {n}"));
+        lines.put(|out| write!(out, " half {n}"));
     }
 }
 
@@ -114,10 +107,10 @@ fn digest(s: &[u8]) -> u64 {
 
 // That of the counter table.
 pub fn table(lines: &mut Lines, s: &[u8]) {
-    lines.put(format_args!(" table {:016x}", digest(s)));
+    lines.put(|out| write!(out, " table {:016x}", digest(s)));
 }
 
 // The same of section memory.
 pub fn memory(lines: &mut Lines, m: &[u8; MEMORY]) {
-    lines.put(format_args!(" memory {:016x}", digest(m)));
+    lines.put(|out| write!(out, " memory {:016x}", digest(m)));
 }
