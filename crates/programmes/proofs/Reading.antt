@@ -17,7 +17,7 @@ use Rattle.programmes.specs.declared.Listed.{Listed}
 use Rattle.programmes.specs.declared.Addition.{Addition}
 use Rattle.programmes.specs.declared.Addition.TheVariants.{Nothing, Mark, One}
 use Rattle.programmes.specs.Listing.{is_number, entered, made_bad, read_on}
-use Rattle.programmes.specs.inner.Reading.{entry_number, pid_in, seen_in, with_addition}
+use Rattle.programmes.specs.inner.Reading.{four_number, pid_in, seen_in, with_addition}
 
 -- A NUMBER SEEN EARLIER: that of an entry before, or of none
 is_number_last : (n m : ℕ) (ns : List ℕ) → is_number n (ns ++ m ∷ []) ≡ (eqb m n || is_number n ns)
@@ -30,15 +30,15 @@ is_number_last n m (k ∷ ns) = ap (λ z. eqb k n || z) (is_number_last n m ns) 
     turned true false c = refl
     turned false b c = refl
 
-pub seen_any : (n : ℕ) (fs : List (List ℕ)) → list_any (λ (f : List ℕ). eqb (entry_number f) n) fs ≡ is_number n (seen_in fs)
+pub seen_any : (n : ℕ) (fs : List (List ℕ)) → list_any (λ (f : List ℕ). eqb (four_number f) n) fs ≡ is_number n (seen_in fs)
 unfolding is_number seen_in
 seen_any n [] = refl
-seen_any n (f ∷ fs) = ap (λ z. eqb (entry_number f) n || z) (seen_any n fs) ∙ sym (is_number_last n (entry_number f) (seen_in fs))
+seen_any n (f ∷ fs) = ap (λ z. eqb (four_number f) n || z) (seen_any n fs) ∙ sym (is_number_last n (four_number f) (seen_in fs))
 
-pub seen_next : (f : List ℕ) (fs : List (List ℕ)) → seen_in (fs ++ f ∷ []) ≡ entry_number f ∷ seen_in fs
+pub seen_next : (f : List ℕ) (fs : List (List ℕ)) → seen_in (fs ++ f ∷ []) ≡ four_number f ∷ seen_in fs
 unfolding seen_in
 seen_next f [] = refl
-seen_next f (g ∷ fs) = ap (λ z. z ++ entry_number g ∷ []) (seen_next f fs)
+seen_next f (g ∷ fs) = ap (λ z. z ++ four_number g ∷ []) (seen_next f fs)
 
 -- the list with what an entry adds: at most sixteen are listed
 pub added_most : (r : Addition) (l : Listed) → l.count ≤ 16 → ((e : Entry) → r ≡ One e → l.count < 16) → (with_addition r l).count ≤ 16
@@ -58,7 +58,7 @@ chunk_at n (suc k) (suc i) s d h =
 module _ (t : ℕ) (old : List Entry) (e : List ℕ) (fs : List (List ℕ)) (is : fs ≡ first_chunks 4 (length e / 4) e) where
   pub read_turn : (k : ℕ) (l : Listed) → k < length e / 4 → k < length fs
       → read_on t old (seen_in (take k fs)) l (drop (k * 4) e)
-      ≡ read_on t old (seen_in (take (k + 1) fs)) (entered t old (seen_in (take k fs)) (entry_number (get_or fs k [])) (pid_in (get_or fs k [])) l) (drop ((k + 1) * 4) e)
+      ≡ read_on t old (seen_in (take (k + 1) fs)) (entered t old (seen_in (take k fs)) (four_number (get_or fs k [])) (pid_in (get_or fs k [])) l) (drop ((k + 1) * 4) e)
   unfolding read_on
   read_turn k l h m =
       let i = k * 4 in

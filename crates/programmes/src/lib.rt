@@ -9,7 +9,7 @@ ghost use Rattle.watches.specs.Tables.{fixed_count};
 ghost use Rattle.sections.specs.Rooms.{room_count, room_of_place};
 ghost use Rattle.programmes.specs.declared.Addition.TheVariants.{One};
 ghost use Rattle.programmes.specs.Listing.{entry_for, is_number, pid_unusable, most_listed, entered, none_listed, read_on, list_of};
-ghost use Rattle.programmes.specs.inner.Reading.{entry_number, pid_in, seen_in, with_addition};
+ghost use Rattle.programmes.specs.inner.Reading.{four_number, pid_in, seen_in, with_addition};
 ghost use Rattle.programmes.specs.Places.{half_at, every_place, moved_half, moved_halves, rooms_laid, moved_bytes};
 ghost use Rattle.programmes.specs.inner.Moving.{listed_place, none_half, section_at, Placed, Stayed};
 
@@ -73,7 +73,7 @@ enum Addition {
 // What the entry of these four bytes adds behind `count` others; before are the entries before it, old is the list just
 // replaced.
 fn read_one(count: usize, t: u64, old: &[Entry], before: &[[u8; 4]], entry: [u8; 4]) -> Addition
-    ensures adds { (l : Listed) → l.count ≡ count → entered t old.now (seen_in before.now) (entry_number entry) (pid_in entry) l ≡ with_addition result l }
+    ensures adds { (l : Listed) → l.count ≡ count → entered t old.now (seen_in before.now) (four_number entry) (pid_in entry) l ≡ with_addition result l }
     ensures room { (entry : Entry) → result ≡ One entry → count < most_listed }
 {
     let [a, b, c, d] = entry;
