@@ -94,6 +94,7 @@ pub(crate) fn read_packet(
 }
 
 // A packet call that refusals 1 to 4 pass, made in all its steps: the late events, then those of the packet; how many there are.
+// What is lent stays in parameters of its own, here and above: a struct of `&mut`s got no proof without a clause on each loan.
 pub(crate) fn loud_packet(
     times: &mut [u64; TIMES],
     words: &mut [u16; WORDS],

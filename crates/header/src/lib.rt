@@ -11,7 +11,7 @@ pub const PACKET_SIZE: usize = 188;
 
 pub const SYNC_BYTE: u8 = 0x47;
 
-// What steps 2 to 5 look at. Control and payload stay numbers, not an enum and an Option, as `header_of` of the specs has them.
+// What steps 2 to 5 look at. Control stays the packet's two bits, as the steps name them (0b01 to 0b11): an enum is no plainer.
 #[derive(Clone, Copy, PartialEq, Eq, Debug)]
 pub struct Header {
     pub error: bool,

@@ -38,6 +38,7 @@ struct Built {
 
 const STUFFING: u8 = 0xFF;
 
+// Whether section_length is out of bounds: a name for the comparison, by which the clauses ask.
 fn is_bad(g: Stage) -> bool
     ensures { result ≡ is_bad g }
 {

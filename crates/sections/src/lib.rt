@@ -43,7 +43,8 @@ pub struct Laid {
 // The bytes of section memory.
 pub const MEMORY: usize = 24576;
 
-// How many rooms it has: one for each fixed table, one for each place of the list.
+// How many rooms it has: one for each fixed table, one for each place of the list. A room is a number, since its place in section
+// memory and in the list is reckoned from it.
 pub const ROOMS: usize = 21;
 
 pub const PAT_ROOM: usize = 0;
@@ -104,7 +105,7 @@ pub fn stage_of(s: &[u8], top: usize) -> Stage
     }
 }
 
-// Whether a section is still to be built on.
+// Whether a section is still to be built on: a name for the comparison, by which the clauses of callers ask.
 pub fn is_more(g: Stage) -> bool
     ensures { result ≡ is_more g }
 {
