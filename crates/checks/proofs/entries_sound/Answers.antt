@@ -83,9 +83,3 @@ loop-i-preserved c =
       rw c.from-mark.ensures (subst (λ (x : Entry). Marked (set loop.marks (x.number % 64) true) (rest i)) same (marked_turn es count i fits loop.marks (omega arith) loop.invariant.0 marked)),
       entries_on es count i fits (omega arith) here (rw same once) ∙ ap (λ (j : ℕ). entries_sound (rest j)) (sym next) ∙ loop.invariant.2,
     )
-
-pub returns : goal.returns
-returns c =
-    let start = c in
-    let none : c.loop-i.i ≡ 0 = omega arith in
-    sym (subst (λ (j : ℕ). entries_sound (drop j (take start.args.count (entries_in start.args.times.now start.args.words.now))) ≡ true) none c.loop-i.invariant.2)

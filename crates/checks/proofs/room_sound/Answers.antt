@@ -6,7 +6,7 @@ use Rattle.lists.specs.Places.{part}
 use Rattle.lists.proofs.Places.{part_lent}
 use Rattle.sections.specs.Section.{is_more}
 use Rattle.sections.specs.Rooms.{greatest_length}
-use Rattle.sections.proofs.Stages.{stage_few, room_fits}
+use Rattle.sections.proofs.Stages.{stage_few}
 use Rattle.checks.proofs.Turns.{part_cut}
 use Rattle.checks.proofs.room_sound.Goals as goal
 
@@ -15,13 +15,6 @@ unfolding part
 returns-then-half-eq0 c =
     let args = c.args in
     rw (c.if-half-eq0.true, stage_few (greatest_length args.room) [] (omega arith))
-
-pub overflow_sub-base : goal.overflow_sub-base
-overflow_sub-base c = omega (arith, c.room_base-base.ensures, room_fits c.args.room c.requires)
-
-pub slice_bounds-stage_of-end : goal.slice_bounds-stage_of-end
-slice_bounds-stage_of-end c =
-    omega (arith, c.min-n.ensures, c.room_base-base.ensures, room_fits c.args.room c.requires)
 
 pub returns : goal.returns
 returns c =

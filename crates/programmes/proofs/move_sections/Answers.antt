@@ -7,14 +7,11 @@ use Rattle.programmes.proofs.Moves.{placed, stayed_back, bytes_at_lem}
 use Rattle.programmes.proofs.Moved.{laid_back}
 use Rattle.programmes.proofs.move_sections.Goals as goal
 
-pub move_places-requires : goal.move_places-requires
-move_places-requires c =
+pub move_places-requires-clause-placed : goal.move_places-requires-clause-placed
+move_places-requires-clause-placed c =
     let args = c.args in
     let pre = c.requires in
-    rw c.moved_halves-next.ensures (record {
-      listed = pre.listed;
-      placed = placed args.old.now args.new.now args.half (omega arith) pre.listed.0 pre.by_index;
-    })
+    rw c.moved_halves-next.ensures (placed args.old.now args.new.now args.half (omega arith) pre.listed.0 pre.by_index)
 
 pub returns-then-not-stays : goal.returns-then-not-stays
 returns-then-not-stays c =

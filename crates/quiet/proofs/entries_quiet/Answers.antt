@@ -1,12 +1,9 @@
 -- `quiet::entries_quiet` meets its contract. Assumes nothing.
-use mathlib.Core.Path.{refl, sym, ◌∙◌}
+use mathlib.Core.Path.{sym, ◌∙◌}
 use native.Mathlib.Omega.{arith}
 use lib.ListN.{length-set}
 use Rattle.quiet.proofs.Turns.{entries_here, entries_marked, entries_on, entries_end}
 use Rattle.quiet.proofs.entries_quiet.Goals as goal
-
-pub loop-k-init : goal.loop-k-init
-loop-k-init g c = (refl, refl)
 
 pub returns-then-not-entry_quiet : goal.returns-then-not-entry_quiet
 returns-then-not-entry_quiet g c =
