@@ -122,6 +122,7 @@ pub const FIRST_PART: [u8; 13] = *b"\x47\x50\x00\x10\x00\x02\xb0\xc8\x00\x01\xc1
 pub const LAST_PART: [u8; 24] =
     *b"\x47\x10\x00\x11\xff\xff\xff\xff\xff\xff\xff\xff\xff\xff\xff\xff\xff\xff\xff\xff\xa7\xb3\x07\x7c";
 
+// Packet and clock calls, one by one as in `list_and_programme`.
 pub fn two_packets(lines: &mut Lines) {
     let mut log = run::from(states::two_listed(states::fresh(0)));
     log = run::packet(lines, b"183 bytes of 203", log, 1, &FIRST_PART, 5);

@@ -8,6 +8,7 @@ pub const GREATEST: u64 = 1 << 62;
 
 pub const ABOVE: u64 = GREATEST + 1;
 
+// `as`, as in the other files: no `From` leads from usize to u64.
 fn numbers(lines: &mut Lines, a: Answer) {
     show::number(lines, u64::from(a.refusal));
     show::number(lines, a.n as u64);

@@ -35,6 +35,7 @@ fn over(state: State) -> Carried {
 }
 
 // A packet call above the greatest time with a state that is refused and a table of 8191 bytes.
+// It is no `run::given`, since what that carries from call to call has a table of 8192.
 fn short_table(lines: &mut Lines, name: &[u8], p: &[u8]) {
     let forged = states::with_sync(sound(), false, 2);
     let mut counters = [0; 8191];

@@ -84,7 +84,7 @@ fn field_bytes(f: Fields) -> [u8; 12]
     }
 }
 
-// Where descriptors and test data stand.
+// Where descriptors and test data stand. By `as`, since no `From` leads from usize to u64.
 fn place_numbers(d: Part, t: Part) -> [u64; 4]
     ensures { result ≡ place_numbers d t }
 {

@@ -68,7 +68,8 @@ pub fn songpigeon_packet(
     out
 }
 
-// A clock call: the late events. Refusals 3 to 6.
+// A clock call: the late events. Refusals 3 to 6. It stands beside `songpigeon_packet`, since C calls each by its name, and
+// with parameters of its own.
 pub fn songpigeon_clock(
     times: &mut [u64; TIMES],
     words: &mut [u16; WORDS],

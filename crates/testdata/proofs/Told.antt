@@ -3,7 +3,6 @@ use mathlib.Core.Path.{◌≡◌, refl, sym, ap, ◌∙◌}
 use mathlib.Core.Bool.{Bool, true, false, cond}
 use mathlib.Core.List.{List, [], ◌∷◌}
 use Prim.Native.Nat.{ℕ, zero, suc}
-use native.Mathlib.Omega.{arith}
 use lib.Dec.{eqb}
 use lib.ListN.{get_or}
 use borrow.Author.Tests.{eqb-true, eqb-false}
@@ -26,7 +25,7 @@ use Rattle.testdata.specs.Section.{indicator_of, field_values}
 use Rattle.testdata.specs.Reader.{SectionValues, section_values, reading_says}
 use Rattle.testdata.specs.Writer.{written_says}
 
--- A REFUSAL, by its number, which is never 0
+-- A REFUSAL, by its number
 abbrev refusal_from : ℕ → Refusal
 refusal_from n = cond (eqb n bad_length) BadLength (cond (eqb n bad_crc) BadCrc (cond (eqb n runs_past) RunsPast (cond (eqb n bad_size) BadSize TooShort)))
 
@@ -36,13 +35,6 @@ refusal_back BadCrc = refl
 refusal_back RunsPast = refl
 refusal_back BadSize = refl
 refusal_back TooShort = refl
-
-pub number_not_zero : (e : Refusal) → paper_number e ≡ 0 → ⊥
-number_not_zero BadLength h = omega arith
-number_not_zero BadCrc h = omega arith
-number_not_zero RunsPast h = omega arith
-number_not_zero BadSize h = omega arith
-number_not_zero TooShort h = omega arith
 
 -- each answer again, from what it tells, where its value comes back from what is made of it
 module _ {A B : Type 0} (f : A → B) (again : B → A) (back : (v : A) → again (f v) ≡ v) where

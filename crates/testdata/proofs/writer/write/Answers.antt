@@ -8,15 +8,6 @@ use Rattle.testdata.proofs.Told.{told_ok}
 use Rattle.testdata.proofs.Writings.{fit, writes, section_length_lem}
 use Rattle.testdata.proofs.writer.write.Goals as goal
 
-pub lay-requires : goal.lay-requires
-unfolding write_told
-lay-requires c =
-    let a = c.args in
-    let refusal = write_refusal a.f a.loop_bytes.now a.«data».now (length a.place.now) in
-    let k = told_ok (λ n. n) refusal (size_of a.f (length a.loop_bytes.now) (length a.«data».now)) c.in_ok-n.n c.in_ok-n.ensures in
-    let f = fit a.f a.loop_bytes.now a.«data».now a.place.now k.0 in
-    record { data_in_bounds = (f.enough, f.most); f_value = f.fields }
-
 pub returns : goal.returns
 unfolding write_told write_memory
 returns c =
