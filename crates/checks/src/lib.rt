@@ -116,7 +116,8 @@ fn room_sound(memory: &[u8; MEMORY], room: usize, half: u16) -> bool
     sections::is_more(sections::stage_of(&memory[base..base + n], top))
 }
 
-// Whether nothing is half-built. All lengths are looked at: a loop without a way out is done many at a time.
+// Whether nothing is half-built. All lengths are looked at: a loop without a way out is done many at a time. They are a part of
+// the lent words, so a slice, whose length is a clause.
 pub fn none_half(half: &[u16]) -> bool
     requires { length half.now ≡ room_count }
     ensures { result ≡ none_half half.now }

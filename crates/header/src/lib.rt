@@ -58,7 +58,7 @@ fn pid_bits(high: u8, low: u8) -> u16
     u16::from_be_bytes([high % 32, low])
 }
 
-// The fields of a packet.
+// The fields of a packet, which a host lends as a slice of any length: its length is a clause, behind refusal 1, and no type.
 #[tactic(auto, unfolding(crate::specs::Header::header_of))]
 pub fn read(p: &[u8]) -> Header
     requires { length p.now ≡ packet_size }

@@ -132,7 +132,8 @@ fn place_of(entries: &[Entry], pid: u16) -> Option<usize>
     entries.iter().position(|e| e.pid == pid)
 }
 
-// The half-built length of the place k of the new list.
+// The half-built length of the place k of the new list. Here and below a list is a slice of at most sixteen: no type says so, and an
+// array with its count was no plainer.
 fn moved_half(old: &[Entry], new: &[Entry], half: &[u16; ROOMS], k: usize) -> u16
     requires { (length old.now ≤ most_listed) × (length new.now ≤ most_listed) }
     ensures { result ≡ moved_half old.now new.now half.now k }

@@ -34,7 +34,7 @@ use std::ops::ControlFlow;
 use watches::{FIXED, PAT_PID};
 
 // A packet at a time, its header, and the table byte of its PID. What is lent to be written stays apart: tried, and the proof of a
-// struct of `&mut`s did not close without a clause on each loan.
+// struct of `&mut`s did not close without a clause on each loan. That the byte is the table's is a clause: the table is lent apart.
 #[derive(Clone, Copy)]
 struct Seen<'a> {
     time: u64,

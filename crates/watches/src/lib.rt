@@ -104,7 +104,7 @@ pub fn table_of(k: usize) -> Table
 
 // The late events of a watch whose gap began at since, one for each limit that falls due, laid from the place n on; the
 // next place. List and place stay two parameters, as in the crates above: tried as one struct, and a `&mut` field got no
-// proof.
+// proof. Time goes from p to t, two numbers and no Range, which is not Copy.
 fn late_row(
     list: &mut [u64],
     n: usize,
