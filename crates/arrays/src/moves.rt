@@ -1,5 +1,6 @@
 // What a call reads of the lent arrays, and what it moves in them, one thing at a time. What only reads takes slices: its clause
 // asks for the core's numbers or more, and may not ask for exactly as many, as an array type would.
+// That at most sixteen are listed and a run is at most 4 are clauses: a host lends any numbers, and refusal 5 judges them.
 ghost use Rattle.std.specs.Prelude.{◌≡◌, ◌≤◌, ◌<◌, List, ℕ, length, set, replicate, eqb, position};
 ghost use Rattle.watches.specs.Tables.{fixed_count};
 ghost use Rattle.sections.specs.Rooms.{room_count};
