@@ -1,7 +1,7 @@
 -- The check of the state, one turn of each loop at a time: what is still to be checked begins with what is at hand. Assumes nothing.
 use mathlib.Core.Path.{◌≡◌, refl, sym, ap, ◌∙◌}
 use mathlib.Core.Bool.{Bool, true, false, cond, ◌&&◌, ◌||◌, and-false}
-use mathlib.Core.List.{List, [], ◌∷◌, ◌++◌}
+use mathlib.Core.List.{List, [], ◌∷◌}
 use Prim.Native.Nat.{ℕ, zero, suc, ◌+◌, ◌-◌, ◌≤◌, ◌<◌}
 use native.Mathlib.Omega.{arith}
 use lib.Dec.{eqb, leb}
@@ -15,7 +15,6 @@ use Rattle.watches.specs.declared.Entry.{Entry}
 use Rattle.watches.specs.Tables.{no_entry, latest_time}
 use Rattle.sections.specs.Rooms.{greatest_length, half_built}
 use Rattle.sections.specs.Section.{stage_of, is_more}
-use Rattle.programmes.specs.inner.Moving.{none_half}
 use Rattle.calls.specs.Sound.{times_sound, number_among, entry_sound, entries_sound, room_sound, rooms_from}
 
 -- TIMES
@@ -24,20 +23,6 @@ pub times_all : (ts : List ℕ) → list_all (λ (t : ℕ). leb t latest_time) t
 unfolding times_sound
 times_all [] = refl
 times_all (t ∷ ts) = ap (λ (z : Bool). leb t latest_time && z) (times_all ts)
-
--- HALF-BUILT LENGTHS, one more
-pub none_push : (ns : List ℕ) (n : ℕ) → none_half (ns ++ n ∷ []) ≡ (none_half ns && eqb n 0)
-unfolding none_half
-none_push [] n = last (eqb n 0)
-  where
-    last : (b : Bool) → (b && true) ≡ b
-    last true = refl
-    last false = refl
-none_push (m ∷ ns) n = rw (none_push ns n) (grouped (eqb m 0) (none_half ns) (eqb n 0))
-  where
-    grouped : (a b c : Bool) → (a && (b && c)) ≡ ((a && b) && c)
-    grouped true b c = refl
-    grouped false b c = refl
 
 -- ENTRIES
 module _ (es : List Entry) (count i : ℕ) (fits : count ≤ length es) where

@@ -2,19 +2,19 @@
 use mathlib.Core.Path.{◌≡◌, refl, sym, ap, ◌∙◌}
 use mathlib.Core.Bool.{Bool, true, false, ◌&&◌}
 use mathlib.Core.List.{List, [], ◌∷◌, ◌++◌}
-use Prim.Native.Nat.{ℕ, zero, suc, ◌+◌, ◌-◌, ◌≤◌, ◌<◌}
+use Prim.Native.Nat.{ℕ, zero, suc, ◌<◌}
 use native.Mathlib.Omega.{arith}
 use lib.Dec.{eqb}
-use lib.ListN.{length, get_or, get_or-eq_default}
+use lib.ListN.{get_or, get_or-eq_default}
 use borrow.Author.Tests.{eqb-true}
 use Rattle.lists.specs.Places.{part}
-use Rattle.lists.proofs.Places.{part_turn, part_at}
+use Rattle.lists.proofs.Places.{part_at}
 use Rattle.lists.proofs.Tests.{and_left, and_right}
 use Rattle.sections.specs.Rooms.{room_of_place}
 use Rattle.programmes.specs.Places.{half_at}
 use Rattle.programmes.specs.inner.Moving.{none_half}
 
--- ONE MORE looked at, and all of them
+-- ONE MORE
 and_assoc : (a b c : Bool) → (a && (b && c)) ≡ (a && b && c)
 and_assoc true b c = refl
 and_assoc false b c = refl
@@ -22,20 +22,6 @@ and_assoc false b c = refl
 and_true : (b : Bool) → (b && true) ≡ b
 and_true true = refl
 and_true false = refl
-
-pub none_turn : (none : Bool) (l : List ℕ) (at k n : ℕ) → k < n → at + k < length l
-    → (none && none_half (part l (at + k) (n - k))) ≡ (none && eqb (get_or l (at + k) 0) 0 && none_half (part l (at + (k + 1)) (n - (k + 1))))
-unfolding none_half
-none_turn none l at k n h g =
-    let left : n - k ≡ suc (n - (k + 1)) = omega arith in
-    let next : at + k + 1 ≡ at + (k + 1) = omega arith in
-    rw (left, part_turn l (at + k) (n - (k + 1)) 0 g, next) (and_assoc none (eqb (get_or l (at + k) 0) 0) (none_half (part l (at + (k + 1)) (n - (k + 1)))))
-
-pub none_end : (none : Bool) (l : List ℕ) (at k n : ℕ) → n ≤ k → (none && none_half (part l (at + k) (n - k))) ≡ none
-unfolding none_half part
-none_end none l at k n h =
-    let left : n - k ≡ 0 = omega arith in
-    rw left (and_true none)
 
 pub none_push : (ns : List ℕ) (n : ℕ) → none_half (ns ++ (n ∷ [])) ≡ (none_half ns && eqb n 0)
 unfolding none_half

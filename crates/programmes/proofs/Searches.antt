@@ -1,17 +1,14 @@
--- Searches through a list, by the library and one turn of a loop at a time: what is still to be searched begins with the entry at hand.
--- Assumes nothing.
+-- Searches through a list, by the library. Assumes nothing.
 use mathlib.Core.Path.{◌≡◌, refl, sym, ap}
 use mathlib.Core.Bool.{Bool, true, false, cond}
 use mathlib.Core.List.{List, [], ◌∷◌}
-use Prim.Native.Nat.{ℕ, suc, ◌+◌, ◌≤◌, ◌<◌}
+use Prim.Native.Nat.{ℕ, ◌+◌}
 use lib.Dec.{eqb, ltb}
 use Rattle.std.specs.Prelude.{Some, None, unwrap_or, position, find}
 use Rattle.std.proofs.Math.Numerals.{one-add}
 use Rattle.std.proofs.lemmas.List.Recursion.{is_position_or_len}
-use lib.ListN.{length, get_or, take, drop}
-use Rattle.lists.proofs.Turns.{left_turn, left_none}
+use lib.ListN.{length}
 use Rattle.watches.specs.declared.Entry.{Entry}
-use Rattle.watches.specs.Tables.{no_entry}
 use Rattle.programmes.specs.Listing.{is_pair, entry_for}
 use Rattle.programmes.specs.inner.Moving.{listed_place}
 use Rattle.programmes.specs.Places.{place_of}
@@ -36,18 +33,3 @@ entry_found t n q (e ∷ es) = go (is_pair n q e) (entry_found t n q es)
     go : (b : Bool) → unwrap_or (find (is_pair n q) es) new ≡ entry_for t es n q → unwrap_or (cond b (Some e) (find (is_pair n q) es)) new ≡ cond b e (entry_for t es n q)
     go true h = refl
     go false h = h
-
-module _ (es : List Entry) (count i : ℕ) (fits : count ≤ length es) where
-  -- the first place with a PID
-  pub place_here : (q : ℕ) → i < count → eqb (get_or es i no_entry).pid q ≡ true → place_of q (drop i (take count es)) ≡ 0
-  unfolding place_of
-  place_here q h e = rw (left_turn es count i no_entry h fits, e)
-
-  pub place_on : (q : ℕ) → i < count → eqb (get_or es i no_entry).pid q ≡ false
-      → place_of q (drop i (take count es)) ≡ suc (place_of q (drop (i + 1) (take count es)))
-  unfolding place_of
-  place_on q h e = rw (left_turn es count i no_entry h fits, e)
-
-  pub place_none : (q : ℕ) → count ≤ i → place_of q (drop i (take count es)) ≡ 0
-  unfolding place_of
-  place_none q h = rw (left_none es count i h fits)

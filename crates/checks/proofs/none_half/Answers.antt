@@ -10,7 +10,7 @@ use Rattle.std.proofs.iter.Yields.{fronts}
 use Rattle.std.proofs.lemmas.Fn.{fold_over}
 use Rattle.std.proofs.lemmas.Iterator.{YieldsList-from_slice}
 use Rattle.programmes.specs.inner.Moving.{none_half}
-use Rattle.checks.proofs.Turns.{none_push}
+use Rattle.programmes.proofs.Empty.{none_push}
 use Rattle.checks.proofs.none_half.Goals as goal
 
 pub returns : goal.returns
