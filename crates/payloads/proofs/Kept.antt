@@ -2,7 +2,7 @@
 use mathlib.Core.Path.{◌≡◌, ap, ◌∙◌}
 use mathlib.Core.Bool.{Bool, true, false, cond}
 use mathlib.Core.List.{List, [], ◌∷◌, map}
-use Prim.Native.Nat.{ℕ, ◌≤◌, ◌<◌}
+use Prim.Native.Nat.{ℕ, ◌≤◌}
 use native.Mathlib.Omega.{arith}
 use lib.Dec.{eqb}
 use lib.ListN.{length, take, length-append, length-take}
@@ -25,16 +25,13 @@ use Rattle.calls.specs.declared.Core.{Core}
 use Rattle.calls.specs.Steps.{arrival, arrived_table, arrived_programme, new_list, listed_by, relisted, bytes_of, absorbed_by, absorbed_all}
 use Rattle.calls.specs.Cores.{Held, listed}
 use Rattle.payloads.specs.inner.Taking.{held}
-use Rattle.payloads.specs.inner.Parts.{end_acts, Left, Shown, Fit}
+use Rattle.payloads.specs.inner.Parts.{end_acts, Left, Shown, Small, Fit}
 use Rattle.programmes.proofs.Moved.{moved_length}
-
-abbrev Small : List ℕ → Type 0
-Small ns = (k : ℕ) → k < 16 → half_at ns (room_of_place k) ≤ 1024
 
 pub record Kept (h : Held) : Type 0 where
   pub whole : length h.memory ≡ memory_size
   pub rooms : 5 ≤ length h.core.half
-  pub halves : (k : ℕ) → k < 16 → half_at h.core.half (room_of_place k) ≤ 1024
+  pub halves : Small h.core.half
 
 -- a half-built section that stays with its PID is no longer than it was
 halves_small : (old new : List Entry) (ns : List ℕ) → 5 ≤ length ns → length old ≤ 16 → Small ns → Small (moved_halves old new ns)

@@ -3,16 +3,16 @@ ghost use Rattle.std.specs.Prelude.{◌≡◌, cond, ◌&&◌, List, [], ◌∷�
 ghost use Rattle.events.specs.Capacity.{least_capacity, number_capacity};
 ghost use Rattle.events.specs.Faults as fault;
 ghost use Rattle.events.specs.Events.{event_at, events_laid};
-ghost use Rattle.sections.specs.Rooms.{memory_size, room_count, room_base, pat_room, room_of_place, half_built};
+ghost use Rattle.sections.specs.Rooms.{memory_size, room_count, room_base, pat_room, half_built};
 ghost use Rattle.sections.specs.inner.Steps.{step_outcome};
 ghost use Rattle.programmes.specs.Listing.{most_listed};
-ghost use Rattle.programmes.specs.Places.{half_at, moved_halves, moved_bytes};
+ghost use Rattle.programmes.specs.Places.{moved_halves, moved_bytes};
 ghost use Rattle.calls.specs.Cores.{with_half};
 ghost use Rattle.calls.specs.Steps.{arrival, new_list, relisted, arrived_in};
 ghost use Rattle.arrays.specs.Lent.{word_count, count_in, halves_in, core_in};
 ghost use Rattle.arrays.specs.inner.Kept.{SyncKept, Moved};
 ghost use Rattle.payloads.specs.inner.Taking.{held};
-ghost use Rattle.payloads.specs.inner.Parts.{end_acts, left, Shown, Fit};
+ghost use Rattle.payloads.specs.inner.Parts.{end_acts, left, Shown, Small, Fit};
 
 use arrays::{TIMES, WORDS};
 use events::{BAD, PAT_ERROR};
@@ -27,11 +27,12 @@ pub(crate) struct Arrival {
     pub(crate) time: u64,
     pub(crate) room: usize,
     pub(crate) pid: u16,
+    ghost inside: { room < room_count },
 }
 
 // What a section step of a room says, by the bytes there.
 fn outcome_in(memory: &[u8; MEMORY], a: Arrival, size: usize, stage: Stage) -> Outcome
-    requires { (a.room < room_count) × (room_base a.room + size ≤ memory_size) }
+    requires { room_base a.room + size ≤ memory_size }
     ensures { result ≡ step_outcome a.room a.pid stage (half_built memory.now a.room size) }
 {
     let base = sections::room_base(a.room);
@@ -41,7 +42,7 @@ fn outcome_in(memory: &[u8; MEMORY], a: Arrival, size: usize, stage: Stage) -> O
 // Half-built sections stay with their PIDs as a list is replaced; mostly there are none.
 fn keep_sections(words: &mut [u16; WORDS], memory: &mut [u8; MEMORY], old: &[Entry], new: &[Entry])
     requires few { (length old.now ≤ most_listed) × (length new.now ≤ most_listed) }
-    requires by_index { (k : ℕ) → k < most_listed → half_at (halves_in words.old) (room_of_place k) ≤ 1024 }
+    requires small { Small (halves_in words.old) }
     ensures { ((times : List ℕ) → core_in times words.new ≡ with_half (moved_halves old.now new.now (halves_in words.old)) (core_in times words.old))
         × (memory.new ≡ moved_bytes old.now new.now (halves_in words.old) memory.old)
         × SyncKept words.old words.new }
@@ -63,7 +64,7 @@ fn relist(
     time: u64,
 ) -> bool
     requires few { (count_in words.old ≤ most_listed) × (size ≤ memory_size) }
-    requires by_index { (k : ℕ) → k < most_listed → half_at (halves_in words.old) (room_of_place k) ≤ 1024 }
+    requires small { Small (halves_in words.old) }
     ensures words_after { (core_in times.new words.new ≡ (relisted time (half_built memory.old pat_room size) (held (core_in times.old words.old) memory.old)).core)
         × (memory.new ≡ (relisted time (half_built memory.old pat_room size) (held (core_in times.old words.old) memory.old)).memory)
         × (result ≡ (new_list time (half_built memory.old pat_room size) (core_in times.old words.old)).bad) }
@@ -88,8 +89,8 @@ fn arrive(
     extension: u16,
     size: usize,
 ) -> bool
-    requires few { (count_in words.old ≤ most_listed) × (size ≤ memory_size) × (a.room < room_count) }
-    requires by_index { (k : ℕ) → k < most_listed → half_at (halves_in words.old) (room_of_place k) ≤ 1024 }
+    requires few { (count_in words.old ≤ most_listed) × (size ≤ memory_size) }
+    requires small { Small (halves_in words.old) }
     ensures words_after { (core_in times.new words.new ≡ (arrived_in (arrival a.time a.room a.pid) extension (half_built memory.old a.room size) (held (core_in times.old words.old) memory.old)).core)
         × (memory.new ≡ (arrived_in (arrival a.time a.room a.pid) extension (half_built memory.old a.room size) (held (core_in times.old words.old) memory.old)).memory)
         × (result ≡ (eqb a.room pat_room && (new_list a.time (half_built memory.old a.room size) (core_in times.old words.old)).bad)) }
@@ -131,7 +132,7 @@ pub(crate) fn act(
     n: usize,
 ) -> usize
     requires fit { Fit (core_in times.old words.old) memory.old numbers.old }
-    requires room_lt_room_count { (a.room < room_count) × (room_base a.room + size ≤ memory_size) × (n < least_capacity) }
+    requires few { (room_base a.room + size ≤ memory_size) × (n < least_capacity) }
     ensures shown { Shown (end_acts a.time a.room a.pid stage (half_built memory.old a.room size) (held (core_in times.old words.old) memory.old))
         n numbers.old numbers.new memory.new (left (core_in times.new words.new) result) }
     ensures moved { Moved times.old words.old times.new words.new × (count_in words.new ≤ most_listed) × (result ≤ n + 1) }

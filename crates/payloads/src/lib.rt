@@ -7,7 +7,7 @@ mod arrivals;
 
 ghost use Rattle.std.specs.Prelude.{◌≡◌, true, ◌+◌, ◌≤◌, ◌<◌, length, unwrap_or};
 ghost use Rattle.events.specs.Capacity.{least_capacity};
-ghost use Rattle.sections.specs.Rooms.{room_count, greatest_length, half_built};
+ghost use Rattle.sections.specs.Rooms.{greatest_length, half_built};
 ghost use Rattle.sections.specs.Section.{stage_of, is_more};
 ghost use Rattle.sections.specs.Building.{going_on, following, fed, begun_job};
 ghost use Rattle.programmes.specs.Listing.{most_listed};
@@ -57,7 +57,7 @@ fn follow(
     n0: usize,
 ) -> Built
     requires fit { Fit (core_in times.old words.old) memory.old numbers.old }
-    requires room_lt_room_count { (a.room < room_count) × (length s.now ≤ 183) × (n0 + 61 ≤ least_capacity) }
+    requires few { (length s.now ≤ 183) × (n0 + 61 ≤ least_capacity) }
     ensures shown { Shown (came_to a.time a.room a.pid (fed following a.room (begun_job memory.old 0) s.now) (held (core_in times.old words.old) memory.old))
         n0 numbers.old numbers.new memory.new (finished a.room result.half (core_in times.new words.new) result.n) }
     ensures moved { Moved times.old words.old times.new words.new × (result.n ≤ n0 + 61) × (result.half < 65536) }
@@ -93,7 +93,8 @@ fn resume(
     n: usize,
 ) -> Resumed
     requires fit { Fit (core_in times.old words.old) memory.old numbers.old }
-    requires room_lt_room_count { (a.room < room_count) × (length s.now ≤ 184) × (n < least_capacity) × (is_more (stage_of (greatest_length a.room) (half_built memory.old a.room half)) ≡ true) }
+    requires few { (length s.now ≤ 184) × (n < least_capacity) }
+    requires more { is_more (stage_of (greatest_length a.room) (half_built memory.old a.room half)) ≡ true }
     ensures gone { Gone a.time a.room a.pid (fed going_on a.room (begun_job memory.old half) s.now) (core_in times.old words.old)
         n numbers.old numbers.new memory.new (went (core_in times.new words.new) result) }
     ensures moved { Moved times.old words.old times.new words.new × (count_in words.new ≤ most_listed) × (result.n ≤ n + 1) × (unwrap_or result.half 0 ≤ 4096) }

@@ -31,7 +31,7 @@ resuming times words q whole wide e gone = record { fit = fits times words q who
 pub resume-g-requires : goal.resume-g-requires
 resume-g-requires c =
     let q = c.requires in
-    record { fit = fits _ _ q (omega arith) (omega arith); room_lt_room_count = (q.room, q.payload, omega (arith, q.places), rw c.half_in-half.ensures (takable_more q)) }
+    record { fit = fits _ _ q (omega arith) (omega arith); few = (q.payload, omega (arith, q.places)); more = rw c.half_in-half.ensures (takable_more q) }
 
 pub returns-then-not-start-clause-shown : goal.returns-then-not-start-clause-shown
 returns-then-not-start-clause-shown c =
@@ -55,7 +55,7 @@ returns-then-payload-e-clause-shown c =
 pub resume-g-requires-2 : goal.resume-g-requires-2
 resume-g-requires-2 c =
     let q = c.requires in
-    record { fit = fits _ _ q (omega arith) (omega arith); room_lt_room_count = (q.room, simp (length-take, length-drop) (omega (arith, q.payload)), omega (arith, q.places), rw c.half_in-half.ensures (takable_more q)) }
+    record { fit = fits _ _ q (omega arith) (omega arith); few = (simp (length-take, length-drop) (omega (arith, q.payload)), omega (arith, q.places)); more = rw c.half_in-half.ensures (takable_more q) }
 
 pub returns-then-is_none-clause-shown : goal.returns-then-is_none-clause-shown
 returns-then-is_none-clause-shown c =

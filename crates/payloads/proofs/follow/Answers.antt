@@ -25,31 +25,31 @@ lay-l-requires-clause-half_value c = empty_more c.loop-at.memory c.args.a.room
 pub returns-then-is_more : goal.returns-then-is_more
 returns-then-is_more c =
     let loop = c.loop-at in
-    let q = new_section c.requires.room_lt_room_count.0 loop.invariant.fit c.lay-l.ensures.0 c.lay-l.ensures.1 c.loop-at-test.true c.if-s-at.false in
+    let q = new_section c.args.a.inside loop.invariant.fit c.lay-l.ensures.0 c.lay-l.ensures.1 c.loop-at-test.true c.if-s-at.false in
     record { shown = section_waits q loop.invariant.reached _ (sym c.is_more.ensures ∙ c.if-is_more.true) refl; moved = (loop.invariant.moved, omega arith, omega (arith, section_inside q)) }
 
 pub act-n-requires : goal.act-n-requires
 act-n-requires c =
     let loop = c.loop-at in
-    let q = new_section c.requires.room_lt_room_count.0 loop.invariant.fit c.lay-l.ensures.0 c.lay-l.ensures.1 c.loop-at-test.true c.if-s-at.false in
-    record { fit = section_fit q; room_lt_room_count = (q.room, section_inside q, omega (arith, loop.invariant.few, q.here, c.requires.room_lt_room_count)) }
+    let q = new_section c.args.a.inside loop.invariant.fit c.lay-l.ensures.0 c.lay-l.ensures.1 c.loop-at-test.true c.if-s-at.false in
+    record { fit = section_fit q; few = (section_inside q, omega (arith, loop.invariant.few, q.here, c.requires.few)) }
 
 pub returns-then-is_bad-clause-shown : goal.returns-then-is_bad-clause-shown
 returns-then-is_bad-clause-shown c =
     let loop = c.loop-at in
-    let q = new_section c.requires.room_lt_room_count.0 loop.invariant.fit c.lay-l.ensures.0 c.lay-l.ensures.1 c.loop-at-test.true c.if-s-at.false in
+    let q = new_section c.args.a.inside loop.invariant.fit c.lay-l.ensures.0 c.lay-l.ensures.1 c.loop-at-test.true c.if-s-at.false in
     section_stops q loop.invariant.reached c.act-n.ensures.shown (sym c.is_more.ensures ∙ c.if-is_more.false) _ (sym c.is_bad.ensures ∙ c.if-is_bad.true) refl
 
 pub loop-at-smaller : goal.loop-at-smaller
 loop-at-smaller c =
     let loop = c.loop-at in
-    let q = new_section c.requires.room_lt_room_count.0 loop.invariant.fit c.lay-l.ensures.0 c.lay-l.ensures.1 c.loop-at-test.true c.if-s-at.false in
+    let q = new_section c.args.a.inside loop.invariant.fit c.lay-l.ensures.0 c.lay-l.ensures.1 c.loop-at-test.true c.if-s-at.false in
     omega (arith, rw (rest_all c.args.s.now loop.at, length-drop) at c.lay-l.ensures.2, section_three q (sym c.is_more.ensures ∙ c.if-is_more.false), q.here)
 
 pub loop-at-preserved : goal.loop-at-preserved
 loop-at-preserved c =
     let loop = c.loop-at in
-    let q = new_section c.requires.room_lt_room_count.0 loop.invariant.fit c.lay-l.ensures.0 c.lay-l.ensures.1 c.loop-at-test.true c.if-s-at.false in
+    let q = new_section c.args.a.inside loop.invariant.fit c.lay-l.ensures.0 c.lay-l.ensures.1 c.loop-at-test.true c.if-s-at.false in
     let act = c.act-n.ensures in
     let ends = sym c.is_more.ensures ∙ c.if-is_more.false in
     record {

@@ -12,25 +12,25 @@ pub returns-then-is_more : goal.returns-then-is_more
 returns-then-is_more c =
     let args = c.args in
     let pre = c.requires in
-    let q = half_built_now pre.room_lt_room_count.0 pre.fit pre.room_lt_room_count.3 c.lay-l.ensures.0 c.lay-l.ensures.1 c.if-half-eq0.false in
+    let q = half_built_now c.args.a.inside pre.fit pre.more c.lay-l.ensures.0 c.lay-l.ensures.1 c.if-half-eq0.false in
     record { gone = gone_waits q args.a.time args.a.pid args.n (sym c.is_more.ensures ∙ c.if-is_more.true); moved = (moved_none (omega arith) (omega arith), pre.fit.listed, omega arith, going_short q) }
 
 pub act-next-requires : goal.act-next-requires
 act-next-requires c =
     let pre = c.requires in
-    let q = half_built_now pre.room_lt_room_count.0 pre.fit pre.room_lt_room_count.3 c.lay-l.ensures.0 c.lay-l.ensures.1 c.if-half-eq0.false in
-    record { fit = going_fit q; room_lt_room_count = (pre.room_lt_room_count.0, going_inside q, pre.room_lt_room_count.2) }
+    let q = half_built_now c.args.a.inside pre.fit pre.more c.lay-l.ensures.0 c.lay-l.ensures.1 c.if-half-eq0.false in
+    record { fit = going_fit q; few = (going_inside q, pre.few.1) }
 
 pub returns-then-is_bad-clause-gone : goal.returns-then-is_bad-clause-gone
 returns-then-is_bad-clause-gone c =
     let args = c.args in
     let pre = c.requires in
-    let q = half_built_now pre.room_lt_room_count.0 pre.fit pre.room_lt_room_count.3 c.lay-l.ensures.0 c.lay-l.ensures.1 c.if-half-eq0.false in
+    let q = half_built_now c.args.a.inside pre.fit pre.more c.lay-l.ensures.0 c.lay-l.ensures.1 c.if-half-eq0.false in
     rw (sym c.is_bad.ensures ∙ c.if-is_bad.true) at (gone_acts q args.a.time args.a.pid args.n c.act-next.ensures.shown (sym c.is_more.ensures ∙ c.if-is_more.false))
 
 pub returns-clause-gone : goal.returns-clause-gone
 returns-clause-gone c =
     let args = c.args in
     let pre = c.requires in
-    let q = half_built_now pre.room_lt_room_count.0 pre.fit pre.room_lt_room_count.3 c.lay-l.ensures.0 c.lay-l.ensures.1 c.if-half-eq0.false in
+    let q = half_built_now c.args.a.inside pre.fit pre.more c.lay-l.ensures.0 c.lay-l.ensures.1 c.if-half-eq0.false in
     rw (sym c.is_bad.ensures ∙ c.if-is_bad.false) at (gone_acts q args.a.time args.a.pid args.n c.act-next.ensures.shown (sym c.is_more.ensures ∙ c.if-is_more.false))

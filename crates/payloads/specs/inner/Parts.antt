@@ -12,6 +12,7 @@
 --   went c g           == what `resume` hands back, with the core: where it says no length, the rest is ignored
 --   Gone t r pid j c .. == the code shows the sections of a job j acting from the core c; the bytes in the room, and whether the rest is ignored, are
 --                         the job's
+--   Small ns           == of the half-built lengths ns, those of the list's places are within their rooms
 --   Fit c m list       == what a section may act on: section memory whole, at most sixteen listed, half-built sections of the list's places
 --                         within their rooms, places for the least event list
 use Rattle.std.specs.Prelude.{◌≡◌, Bool, true, false, is_none, unwrap_or, List, ℕ, ◌+◌, ◌≤◌, ◌<◌, length, set}
@@ -71,9 +72,12 @@ pub record Gone (t r pid : ℕ) (j : Job) (c : Core) (n : ℕ) (list₀ list m :
   pub half : g.half ≡ j.half
   pub ignored : g.ignored ≡ j.ignored
 
+abbrev pub Small : List ℕ → Type 0
+Small ns = (k : ℕ) → k < most_listed → half_at ns (room_of_place k) ≤ 1024
+
 pub record Fit (c : Core) (m list : List ℕ) : Type 0 where
   pub whole : length m ≡ memory_size
   pub listed : c.count ≤ most_listed
   pub rooms : 5 ≤ length c.half
-  pub halves : (k : ℕ) → k < most_listed → half_at c.half (room_of_place k) ≤ 1024
+  pub halves : Small c.half
   pub numbers : number_capacity ≤ length list
