@@ -40,7 +40,8 @@ fn gap_quiet(since: u64, limit: u64, p: u64, t: u64) -> bool
     }
 }
 
-// Whether those of the fixed tables are quiet, down the table.
+// Whether those of the fixed tables are quiet, down the table. Written out for speed: five constant limits, no loop over a
+// table. The five starts are those of the fixed tables in their order.
 fn tables_quiet(since: &[u64], p: u64, t: u64) -> bool
     requires { length since.now ≡ fixed_count }
     ensures { result ≡ rows_quiet p t (table_rows fixed_tables since.now) }
@@ -52,7 +53,8 @@ fn tables_quiet(since: &[u64], p: u64, t: u64) -> bool
         && gap_quiet(since[4], TDT_LIMIT, p, t)
 }
 
-// Whether a listed entry is one that refusal 5 passes, quiet, and on another PID than q.
+// Whether a listed entry is one that refusal 5 passes, quiet, and on another PID than q. Near `entry_sound` of checks, but
+// it adds the PID q and the stamp, and is one expression without a branch between its tests.
 fn entry_quiet(e: Entry, p: u64, t: u64, q: u16) -> bool
     ensures { result ≡ entry_quiet p t q e }
 {
@@ -133,14 +135,22 @@ fn is_idle(h: Header) -> bool
     (h.pid == NULL_PID) | (h.control == 0)
 }
 
+// A packet as the glance takes it: with its header, and the byte of its PID in the counter table.
+#[derive(Clone, Copy)]
+struct Seen<'a> {
+    packet: &'a [u8],
+    h: Header,
+    byte: u8,
+    ghost whole: { (length packet.now ≡ packet_size) × (h ≡ header_of packet.now) },
+}
+
 // The byte of the packet's PID in the counter table after steps 3 and 4, where the packet is one of which only the counter is
-// looked at, with nothing to be said of it, by its header and the byte before. Step 4 is judged here by the function that
-// judges it for every other packet.
+// looked at, with nothing to be said of it. Step 4 is judged here by the function that judges it for every other packet.
 #[tactic(auto, unfolding(header::specs::Header::header_of))]
-fn count_quiet(packet: &[u8], h: Header, byte: u8) -> Option<u8>
-    requires { (length packet.now ≡ packet_size) × (h ≡ header_of packet.now) }
-    ensures { result ≡ glance_of (count_quiet packet.now byte) packet.now byte }
+fn count_quiet(seen: Seen) -> Option<u8>
+    ensures { result ≡ glance_of (count_quiet seen.entry.packet.now seen.entry.byte) seen.entry.packet.now seen.entry.byte }
 {
+    let Seen { packet, h, byte } = seen;
     if !head_quiet(packet[0], h) || !continuity::known_byte(byte) {
         return None;
     }
@@ -151,22 +161,14 @@ fn count_quiet(packet: &[u8], h: Header, byte: u8) -> Option<u8>
     if j.event { None } else { Some(j.byte) }
 }
 
-// The byte that a packet call leaves in the counter table, where refusals 1 to 4 pass it and nothing is to be said of it, by the
-// packet's header and the byte of its PID there.
+// The byte that a packet call leaves in the counter table, where refusals 1 to 4 pass it and nothing is to be said of it.
 #[tactic(auto, unfolding(header::specs::Header::header_of))]
-fn glance<S: Standing>(
-    standing: &S,
-    memory: &[u8; MEMORY],
-    time: u64,
-    packet: &[u8],
-    h: Header,
-    byte: u8,
-) -> Option<u8>
-    requires { (length packet.now ≡ packet_size) × (h ≡ header_of packet.now) }
-    ensures { result ≡ glance_of (quiet_call (S.state standing.now) memory.now time packet.now byte) packet.now byte }
+fn glance<S: Standing>(standing: &S, memory: &[u8; MEMORY], time: u64, seen: Seen) -> Option<u8>
+    ensures { result ≡ glance_of (quiet_call (S.state standing.now) memory.now time seen.entry.packet.now seen.entry.byte)
+        seen.entry.packet.now seen.entry.byte }
 {
-    let left = count_quiet(packet, h, byte)?;
-    state_quiet(standing, memory, time, h.pid).then_some(left)
+    let left = count_quiet(seen)?;
+    state_quiet(standing, memory, time, seen.h.pid).then_some(left)
 }
 
 // That of a call on lent arrays.
@@ -183,7 +185,8 @@ pub fn quiet_packet(
     requires packet_len { (length packet.now ≡ packet_size) × (h ≡ header_of packet.now) }
     ensures { result ≡ glance_of (quiet_call (state_in times.now words.now) memory.now time packet.now byte) packet.now byte }
 {
-    glance(&View { times, words }, memory, time, packet, h, byte)
+    let seen = Seen { packet, h, byte };
+    glance(&View { times, words }, memory, time, seen)
 }
 
 // That of a call on a state by value.
@@ -198,5 +201,6 @@ pub fn quiet_value(
     requires { (length packet.now ≡ packet_size) × (h ≡ header_of packet.now) }
     ensures { result ≡ glance_of (quiet_call state memory.now time packet.now byte) packet.now byte }
 {
-    glance(&Value { state: &state }, memory, time, packet, h, byte)
+    let seen = Seen { packet, h, byte };
+    glance(&Value { state: &state }, memory, time, seen)
 }
