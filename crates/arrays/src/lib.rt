@@ -20,7 +20,8 @@ use programmes::MOST_LISTED;
 use sections::ROOMS;
 use watches::{Entry, FIXED, NO_ENTRY};
 
-// What a host is told of a call: the refusal number (0: accepted) and the number of events.
+// What a host is told of a call: the refusal number (0: accepted) and the number of events. Laid out for C, so a number and no
+// Result.
 #[repr(C)]
 #[derive(Clone, Copy)]
 pub struct Reply {

@@ -65,7 +65,7 @@ fn entry_sound(e: Entry) -> bool
 }
 
 // Whether a number is that of a listed entry from the place `start` on.
-// Times and words go side by side: a clause on one struct of both would say for each at which moment it is read, which is no plainer.
+// Times and words go side by side: tried as one struct, whose clause has to say `.entry` of each, and no plainer for what reads only.
 fn number_among(number: u16, times: &[u64], words: &[u16], count: usize, start: usize) -> bool
     requires { (core_time_count ≤ length times.now) × (core_word_count ≤ length words.now) × (count ≤ most_listed) × (start ≤ count) }
     ensures { result ≡ number_among number (drop start (take count (entries_in times.now words.now))) }

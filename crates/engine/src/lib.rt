@@ -72,7 +72,7 @@ pub fn open_at(time: u64, counters: &mut [u8]) -> Answer
 }
 
 // A packet call that is accepted: how many events, and the state. Most are quiet, and done where that is seen; for any other the
-// state is laid into arrays, and read from them.
+// state is laid into arrays, and read from them. What is lent stays in parameters of its own, as in `lent`.
 fn judged_packet(
     state: State,
     time: u64,

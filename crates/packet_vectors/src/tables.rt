@@ -18,7 +18,7 @@ const PAT_OF_2: [u8; 21] =
 const PAT_WITH_BAD_LIST: [u8; 25] =
     *b"\x47\x40\x00\x12\x00\x00\xb0\x11\x00\x01\xc5\x00\x00\x00\x03\xf0\x01\x00\x04\xe0\x1f\x78\xcd\xff\xf8";
 
-// Packet and clock calls by turns: an array of them would have to say of each which it is, and be no plainer.
+// Packet and clock calls by turns, one packet with a byte changed: as an array each call would take as many lines, and be no plainer.
 pub fn list_and_programme(lines: &mut Lines) {
     let mut log = run::from(states::fresh(0));
     log = run::packet(lines, b"PAT of 1", log, 100, &PAT_OF_1, 0);

@@ -17,7 +17,7 @@ use sections::{MEMORY, ROOMS};
 use watches::{Entry, FIXED, NO_ENTRY};
 
 // The list of a good PAT section: how many programmes are listed, whether the list is bad, and sixteen
-// entries by value, of which the first `count` are listed. An array with its count, as the definition `list_of` has it.
+// entries by value, of which the first `count` are listed. An array with its count, since there is no heap.
 #[derive(Clone, Copy)]
 pub struct Listed {
     pub count: usize,
@@ -148,7 +148,8 @@ fn moved_half(old: &[Entry], new: &[Entry], half: &[u16; ROOMS], k: usize) -> u1
 }
 
 // Whether nothing is half-built in the rooms of the list, in which sections are mostly of one packet. All lengths are
-// looked at: a loop without a way out is done many at a time.
+// looked at: a loop without a way out is done many at a time. One line, as `none_half` of checks over all rooms: one function for
+// both is no plainer. A part of the lent words, so a slice, whose length is a clause.
 pub fn none_listed(half: &[u16]) -> bool
     requires { length half.now ≡ room_count }
     ensures { result ≡ none_half (part half.now fixed_count most_listed) }

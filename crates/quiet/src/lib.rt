@@ -41,7 +41,7 @@ fn gap_quiet(since: u64, limit: u64, p: u64, t: u64) -> bool
 }
 
 // Whether those of the fixed tables are quiet, down the table. Written out for speed: five constant limits, no loop over a
-// table. The five starts are those of the fixed tables in their order.
+// table. The five starts are those of the fixed tables in their order, a part of the lent times, so a slice.
 fn tables_quiet(since: &[u64], p: u64, t: u64) -> bool
     requires { length since.now ≡ fixed_count }
     ensures { result ≡ rows_quiet p t (table_rows fixed_tables since.now) }
@@ -65,7 +65,8 @@ fn entry_quiet(e: Entry, p: u64, t: u64, q: u16) -> bool
         & gap_quiet(e.since, PMT_LIMIT, p, t)
 }
 
-// Whether the listed entries are, with no two numbers of the same remainder.
+// Whether the listed entries are, with no two numbers of the same remainder. `entries_sound` of checks, beside it, goes backwards and
+// searches where two are.
 fn entries_quiet<S: Standing>(standing: &S, count: usize, p: u64, t: u64, q: u16) -> bool
     requires { count ≤ most_listed }
     ensures { result ≡ entries_quiet p t q unmarked (take count (S.state standing.now).core.entries) }
@@ -128,7 +129,7 @@ fn head_quiet(sync: u8, h: Header) -> bool
     (sync == SYNC_BYTE) & !h.error & (LOWEST_PID <= h.pid)
 }
 
-// Step 3: a null packet, or no payload at all.
+// Step 3: a null packet, or no payload at all. The one line stands in `judge_header` of steps too, each beside the step that it says.
 fn is_idle(h: Header) -> bool
     ensures { result ≡ (eqb h.pid null_pid || eqb h.control 0) }
 {

@@ -8,6 +8,7 @@ ghost use Rattle.songpigeon.specs.Descriptors.{cursor_at, no_more_found, found_o
 use crate::{Found, WriteReply};
 use testdata::{Cursor, Descriptor, ELEMENTARY_TAG, Fixed, GPS_TAG, PROGRAM_TAG, REDUCED_PCR_TAG};
 
+// The kinds of `Found`, which C reads as numbers: no enum.
 const NO_MORE: u8 = 0;
 
 const OF_FIXED: u8 = 1;
@@ -106,7 +107,8 @@ pub fn songpigeon_testdata_descriptor(
     }
 }
 
-// Writes an elementary_id_descriptor (Table 5): its length. Refusals 13, then 15, and then nothing is written.
+// Writes an elementary_id_descriptor (Table 5): its length. Refusals 13, then 15, and then nothing is written. Four writers and
+// one for other tags, not one over `Fixed`: C calls each by its name, with its numbers as parameters.
 pub fn songpigeon_testdata_elementary_id(id_type: u8, pid: u16, place: &mut [u8]) -> WriteReply
     ensures { (result ≡ write_reply (fixed_told (Fixed.ElementaryId id_type pid) (length place.old)))
         × (place.new ≡ fixed_memory (Fixed.ElementaryId id_type pid) place.old) }

@@ -17,7 +17,7 @@ pub use descriptors::{
 pub use fields::{songpigeon_severity, songpigeon_testdata_read, songpigeon_testdata_write};
 pub use lent::{songpigeon_clock, songpigeon_open, songpigeon_packet};
 
-// What a host is told of a writing: the number of the refusal, or 0 and the length.
+// What a host is told of a writing: the number of the refusal, or 0 and the length. Laid out for C, so a number and no Result.
 #[repr(C)]
 #[derive(Clone, Copy)]
 pub struct WriteReply {
@@ -27,7 +27,7 @@ pub struct WriteReply {
 
 // What a host is told of a place among descriptors: the number of the refusal, or 0; the kind of what stands there
 // (0 nothing more, 1 a descriptor of fixed size, 2 another one), its tag, the place and length of the body of
-// another one, and the next place.
+// another one, and the next place. Laid out for C, which reads refusal, kind and tag as numbers.
 #[repr(C)]
 #[derive(Clone, Copy)]
 pub struct Found {

@@ -4,6 +4,7 @@ use std::fmt::InlineText;
 use std::io::Error;
 use textlog::MALFORMED_LINE;
 
+// Numbers, as the machine's refusal is one: 8 is no refusal of a call.
 const TIME_TOO_LATE: u32 = 4;
 
 const TIME_BACKWARDS: u32 = 6;

@@ -129,7 +129,8 @@ fn late_row(
     m
 }
 
-// The late events of the fixed watches, laid from the place n on; the next place.
+// The late events of the fixed watches, laid from the place n on; the next place. Their gap starts are a part of the lent times, so a
+// slice, whose length is a clause.
 pub fn late_tables(list: &mut [u64], n: usize, p: u64, t: u64, since: &[u64]) -> usize
     requires { (n + fixed_count ≤ least_capacity) × (number_capacity ≤ length list.old) × (length since.now ≡ fixed_count) × ((k : ℕ) → get_or since.now k 0 ≤ latest_time) }
     ensures { (result ≡ n + length (rows_late p t (table_rows fixed_tables since.now)))
