@@ -21,7 +21,7 @@ pub struct Carried {
     pub memory: [u8; MEMORY],
 }
 
-// A state with an unseen table and memory of zeros.
+// A state with an unseen table and memory of zeros: no `From`, since these are not the state's.
 pub fn from(state: State) -> Carried
     ensures { result ≡ record { state = state; counters = replicate 8192 0; memory = replicate memory_size 0 } }
 {

@@ -171,7 +171,7 @@ fn moved_halves(old: &[Entry], new: &[Entry], half: &[u16; ROOMS]) -> [u16; ROOM
     out
 }
 
-// Whether no half-built byte moves.
+// Whether no half-built byte moves: a `for` with a way out, since each place is looked up by its number.
 fn stays(old: &[Entry], new: &[Entry], half: &[u16; ROOMS]) -> bool
     requires { length new.now ≤ most_listed }
     ensures { result ≡ true → Stayed old.now new.now half.now (length new.now) }
