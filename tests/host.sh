@@ -21,6 +21,9 @@ note() { # STATUS WHAT
 bash host/tools.sh
 bash host/library.sh
 note $? "host/library.sh"
+needed=$(nm -u target/staticlib/libsongpigeon.a | awk '$1 == "U" { print $2 }' | sort -u | paste -sd' ')
+[ "$needed" = "memcpy memset" ]
+note $? "the library needs '$needed' from outside, and README says memcpy and memset"
 bash host/program.sh
 note $? "host/program.sh"
 
