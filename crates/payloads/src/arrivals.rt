@@ -16,6 +16,7 @@ ghost use Rattle.payloads.specs.inner.Parts.{end_acts, left, Shown, Small, Fit};
 
 use arrays::{TIMES, WORDS};
 use events::{BAD, PAT_ERROR};
+use programmes::Listed;
 use sections::{MEMORY, Outcome, PAT_ROOM, Stage};
 use watches::{Entry, FIXED};
 
@@ -72,11 +73,15 @@ fn relist(
 {
     let entries = arrays::entries_in(times, words);
     let old = &entries[..arrays::count_in(words)];
-    let l = programmes::read_list(time, old, &memory[..size]);
-    keep_sections(words, memory, old, &l.entries[..l.count]);
+    let Listed {
+        count,
+        bad,
+        entries: new,
+    } = programmes::read_list(time, old, &memory[..size]);
+    keep_sections(words, memory, old, &new[..count]);
     arrays::end_gap(times, PAT_ROOM, time);
-    arrays::lay_list(times, words, l.entries, l.count);
-    l.bad
+    arrays::lay_list(times, words, new, count);
+    bad
 }
 
 // A good section, with its table_id_extension, ends the gap of its table; that of the PAT has the list. Whether that

@@ -17,6 +17,7 @@ use Rattle.lists.specs.Places.{part}
 use Rattle.lists.proofs.Tests.{and_left, Order, below, from, order}
 use Rattle.lists.proofs.Places.{part_back}
 use Rattle.watches.specs.declared.Entry.{Entry}
+use Rattle.watches.specs.Tables.{no_entry}
 use Rattle.sections.specs.Rooms.{memory_size, room_of_place, room_base, half_built}
 use Rattle.sections.proofs.Stages.{place_fits}
 use Rattle.programmes.proofs.Empty.{none_places}
@@ -24,6 +25,10 @@ use Rattle.programmes.specs.Places.{place_of, is_listed, pid_at, is_first, half_
 use Rattle.programmes.specs.inner.Moving.{none_half}
 use Rattle.programmes.specs.inner.Moving.{listed_place, section_at, Placed, Stayed}
 use Rattle.programmes.proofs.Moved.{room_laid, laid_back, rooms_alike}
+
+-- the PID of a listed place
+pub pid_listed : (new : List Entry) (d k : ℕ) → k < d → pid_at (take d new) k ≡ (get_or new k no_entry).pid
+pid_listed new d k h = ap (λ (e : Entry). e.pid) (get_or-take d new k no_entry h)
 
 -- ALL PLACES, one after the other: the number f k for each place k
 module _ (f : ℕ → ℕ) where

@@ -1,7 +1,7 @@
 -- The list read entry by entry. Assumes nothing.
 use mathlib.Core.Path.{◌≡◌, refl, sym, ap, ◌∙◌}
 use mathlib.Core.Bool.{Bool, true, false, cond, ◌||◌}
-use mathlib.Core.List.{List, [], ◌∷◌, ◌++◌}
+use mathlib.Core.List.{List, [], ◌∷◌, ◌++◌, reverse}
 use Prim.Native.Nat.{ℕ, zero, suc, ◌+◌, ◌*◌, ◌/◌, ◌≤◌, ◌<◌}
 use native.Mathlib.Nat.{suc-mul, zero-mul}
 use native.Mathlib.Omega.{arith}
@@ -11,6 +11,7 @@ use lib.Seq.{drop-drop}
 use Rattle.std.specs.List.{list_any}
 use Rattle.std.specs.Simd.{first_chunks}
 use Rattle.std.proofs.lemmas.List.{take_more}
+use Rattle.std.proofs.lemmas.List.Sorted.{list_any-IsPermutation, IsPermutation-reverse}
 use Rattle.lists.proofs.Turns.{drop_four}
 use Rattle.watches.specs.declared.Entry.{Entry}
 use Rattle.programmes.specs.declared.Listed.{Listed}
@@ -34,6 +35,9 @@ pub seen_any : (n : ℕ) (fs : List (List ℕ)) → list_any (λ (f : List ℕ).
 unfolding is_number seen_in
 seen_any n [] = refl
 seen_any n (f ∷ fs) = ap (λ z. eqb (four_number f) n || z) (seen_any n fs) ∙ sym (is_number_last n (four_number f) (seen_in fs))
+
+pub seen_back : (n : ℕ) (fs : List (List ℕ)) → list_any (λ (f : List ℕ). eqb (four_number f) n) (reverse fs) ≡ is_number n (seen_in fs)
+seen_back n fs = sym (list_any-IsPermutation (λ (f : List ℕ). eqb (four_number f) n) fs (reverse fs) (IsPermutation-reverse fs)) ∙ seen_any n fs
 
 pub seen_next : (f : List ℕ) (fs : List (List ℕ)) → seen_in (fs ++ f ∷ []) ≡ four_number f ∷ seen_in fs
 unfolding seen_in

@@ -8,7 +8,7 @@ ghost use Rattle.lists.specs.Places.{part};
 ghost use Rattle.watches.specs.Tables.{fixed_count};
 ghost use Rattle.sections.specs.Rooms.{room_count, room_of_place};
 ghost use Rattle.programmes.specs.declared.Addition.TheVariants.{One};
-ghost use Rattle.programmes.specs.Listing.{entry_for, is_number, pid_unusable, most_listed, entered, none_listed, read_on, list_of};
+ghost use Rattle.programmes.specs.Listing.{entry_for, is_number, pid_unusable, most_listed, entries_of, entered, none_listed, read_on, list_of};
 ghost use Rattle.programmes.specs.inner.Reading.{four_number, pid_in, seen_in, with_addition};
 ghost use Rattle.programmes.specs.Places.{half_at, every_place, moved_half, moved_halves, rooms_laid, moved_bytes};
 ghost use Rattle.programmes.specs.inner.Moving.{listed_place, none_half, section_at, Placed, Stayed};
@@ -46,12 +46,14 @@ fn entry_for(t: u64, old: &[Entry], number: u16, pid: u16) -> Entry
         })
 }
 
-// Whether a number is that of one of these entries.
+// Whether a number is that of one of these entries. The nearest is looked at first, so a number that stands many times in a
+// section is found at once each time, whatever stands before.
 fn seen_before(before: &[[u8; 4]], number: u16) -> bool
     ensures { result ≡ is_number number (seen_in before.now) }
 {
     before
         .iter()
+        .rev()
         .any(|&[a, b, ..]| u16::from_be_bytes([a, b]) == number)
 }
 
@@ -114,15 +116,25 @@ fn read_entries(t: u64, old: &[Entry], e: &[u8]) -> Listed
     l
 }
 
-// The list of a good PAT section that arrives at t; old is the list just replaced.
+// The bytes of a section's entries; none where it is too short to have any.
+#[tactic(auto, unfolding(lists::specs::Places::part))]
+fn entries_of(s: &[u8]) -> &[u8]
+    ensures { result.now ≡ entries_of s.now }
+{
+    if s.len() < 12 {
+        &[]
+    } else {
+        &s[8..s.len() - 4]
+    }
+}
+
+// The list of a good PAT section that arrives at t; old is the list just replaced. One call makes it: a list is large, and one of two
+// would be moved three times.
+#[tactic(auto, unfolding(crate::specs::Listing::list_of))]
 pub fn read_list(t: u64, old: &[Entry], s: &[u8]) -> Listed
     ensures { (result ≡ list_of t old.now s.now) × (result.count ≤ most_listed) }
 {
-    if s.len() < 12 {
-        read_entries(t, old, &[])
-    } else {
-        read_entries(t, old, &s[8..s.len() - 4])
-    }
+    read_entries(t, old, entries_of(s))
 }
 
 // The first place with a PID, if there is one.

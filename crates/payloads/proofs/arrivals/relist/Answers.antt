@@ -21,11 +21,11 @@ returns-clause-words_after c =
     let a = c.args in
     let times = a.times.now in
     let core = core_in times a.words.now in
-    let l = c.read_list-l.result in
+    let l = c.read_list-count.result in
     let old = take c.count_in.result c.entries_in-entries.result in
     let eo : old ≡ listed core = ap₂ (λ (n : ℕ) (es : List Entry). take n es) c.count_in.ensures c.entries_in-entries.ensures in
     let s = half_built a.memory.now pat_room a.size in
-    let el : l ≡ new_list a.time s core = c.read_list-l.ensures.0 ∙ ap (λ (o : List Entry). list_of a.time o s) eo in
+    let el : l ≡ new_list a.time s core = c.read_list-count.ensures.0 ∙ ap (λ (o : List Entry). list_of a.time o s) eo in
     let keep = c.keep_sections.ensures in
     let moved : Listed → List Entry → Core = λ k o. with_list k.count k.entries (arrived_table a.time pat_room (with_half (moved_halves o (listed_by k) core.half) core)) in (
       c.lay_list.ensures.0 ∙ ap (with_list l.count l.entries) (c.end_gap.ensures.0 _ ∙ ap (arrived_table a.time pat_room) (keep.0 times)) ∙ ap₂ moved el eo,
