@@ -113,6 +113,7 @@ pub fn is_more(g: Stage) -> bool
 }
 
 // The bytes s, laid behind the n of the section at base, whose length is known, up to its end.
+#[inline(always)]
 fn lay_known(mem: &mut [u8; MEMORY], base: usize, top: usize, n: usize, s: &[u8]) -> Laid
     requires mem_len { (base + top + 3 ≤ memory_size) × (3 ≤ n) × (n < top + 3) }
     requires n_value { is_more (stage_of top (part mem.old base n)) ≡ true }
@@ -135,6 +136,7 @@ fn lay_known(mem: &mut [u8; MEMORY], base: usize, top: usize, n: usize, s: &[u8]
 }
 
 // The bytes s, laid behind the half-built section at base, up to its end.
+#[inline(always)]
 fn lay_at(mem: &mut [u8; MEMORY], base: usize, top: usize, half: usize, s: &[u8]) -> Laid
     requires mem_len { (base + top + 3 ≤ memory_size) × (half < top + 3) }
     requires half_value { is_more (stage_of top (part mem.old base half)) ≡ true }
@@ -168,6 +170,7 @@ fn lay_at(mem: &mut [u8; MEMORY], base: usize, top: usize, half: usize, s: &[u8]
 }
 
 // The bytes s, laid behind the half-built section of a room, up to its end.
+#[inline(always)]
 pub fn lay(mem: &mut [u8; MEMORY], room: usize, half: usize, s: &[u8]) -> Laid
     requires mem_len { room < room_count }
     requires half_value { is_more (stage_of (greatest_length room) (half_built mem.old room half)) ≡ true }
