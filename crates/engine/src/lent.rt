@@ -160,9 +160,9 @@ fn other_packet(
     ensures { PacketLaid (packet_call (state_in times.old words.old) time packet.now counters.old memory.old capacity)
         (replied result) times.old times.new words.old words.new counters.new memory.new numbers.old numbers.new }
 {
-    let (h, byte) = read_packet(time, packet, counters, capacity)?;
+    let (header, byte) = read_packet(time, packet, counters, capacity)?;
     loud_packet(
-        times, words, time, packet, h, byte, counters, memory, capacity, numbers,
+        times, words, time, packet, header, byte, counters, memory, capacity, numbers,
     )
 }
 

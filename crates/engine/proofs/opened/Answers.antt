@@ -5,4 +5,4 @@ use Rattle.engine.proofs.Ends.{open_done}
 use Rattle.engine.proofs.opened.Goals as goal
 
 pub returns : goal.returns
-returns c = open_done c.args.time c.args.counters.now c.opened_at.result c.fill.new.self (sym c.in_ok-check_open.ensures) c.opened_at.ensures (search rules)
+returns c = open_done c.args.time c.args.counters.now c.opened_at.result c.clear.new.counters (sym c.in_ok-check_open.ensures) c.opened_at.ensures (search rules)

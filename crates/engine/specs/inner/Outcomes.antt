@@ -1,7 +1,7 @@
 -- What a call comes to inside, an outcome or a refusal, and what is handed back of it: document 01, "The calls and their numbers".
 --
 --   replied x    == the reply: 0 and the number of events, or the refusal's number
---   answered s x == the answer of a call on the state s: 0, the number of events and the state left, or the refusal's number and s
+--   answered s x == the answer of a call that left the state s: 0 and the number of events, or the refusal's number, and s
 --   ReadIn x t p counters capacity == what is read of a packet that refusals 1 to 4 pass, its header and the byte of its PID, or the refusal
 use Rattle.std.specs.Prelude.{◌≡◌, ℕ, ◌<◌, List, Result, Ok, Err}
 use Rattle.header.specs.declared.Header.{Header}
@@ -17,8 +17,8 @@ abbrev pub replied : Result ℕ Refusal → Reply
 replied (Ok n) = record { refusal = 0; n = n }
 replied (Err r) = record { refusal = refusal_number r; n = 0 }
 
-abbrev pub answered : State → Result (ℕ × State) Refusal → Answer
-answered s (Ok x) = record { refusal = 0; n = x.0; state = x.1 }
+abbrev pub answered : State → Result ℕ Refusal → Answer
+answered s (Ok n) = record { refusal = 0; n = n; state = s }
 answered s (Err r) = record { refusal = refusal_number r; n = 0; state = s }
 
 abbrev pub ReadIn : Result (Header × ℕ) Refusal → ℕ → List ℕ → List ℕ → ℕ → Type 0

@@ -5,9 +5,9 @@ use Rattle.std.specs.Prelude.{Err}
 use Rattle.engine.proofs.Ends.{packet_refused_early}
 use Rattle.engine.proofs.lent.other_packet.Goals as goal
 
-pub returns-in_err-h : goal.returns-in_err-h
-returns-in_err-h c =
+pub returns-in_err-header : goal.returns-in_err-header
+returns-in_err-header c =
     let a = c.args in
-    let r = c.in_err-h.field-0.0 in
+    let r = c.in_err-header.field-0.0 in
     let same : c.from_residual.result ≡ Err r = search rules in
-    rw same (packet_refused_early a.times.now a.words.now a.time a.packet.now a.counters.now a.memory.now a.capacity a.numbers.now r c.in_err-h.ensures)
+    rw same (packet_refused_early a.times.now a.words.now a.time a.packet.now a.counters.now a.memory.now a.capacity a.numbers.now r c.in_err-header.ensures)
