@@ -39,50 +39,50 @@ pub fn marks() -> [Event; LEAST_CAPACITY]
     [show::mark(); LEAST_CAPACITY]
 }
 
-fn made_packet(log: Carried, time: u64, p: &[u8]) -> (HeldLeast, Carried)
-    ensures { PacketLeft (packet_call log.state time p.now log.counters log.memory least_capacity) result.1 }
+// The call, on the log where it stands: a log is large, so it is not handed on.
+fn made_packet(log: &mut Carried, time: u64, p: &[u8]) -> HeldLeast
+    ensures { PacketLeft (packet_call log.old.state time p.now log.old.counters log.old.memory least_capacity) log.new }
 {
-    let mut after = log;
     let held = byvalue::packet_least(
         log.state,
         time,
         p,
-        &mut after.counters,
-        &mut after.memory,
+        &mut log.counters,
+        &mut log.memory,
         marks(),
     );
-    after.state = held.answer.state;
-    (held, after)
+    log.state = held.answer.state;
+    held
 }
 
-fn made_clock(log: Carried, time: u64) -> (HeldLeast, Carried)
-    ensures { ClockLeft (clock_call log.state time log.memory least_capacity) log result.1 }
+fn made_clock(log: &mut Carried, time: u64) -> HeldLeast
+    ensures { ClockLeft (clock_call log.old.state time log.old.memory least_capacity) log.old log.new }
 {
     let held = byvalue::clock_least(log.state, time, &log.memory, marks());
-    let state = held.answer.state;
-    (held, Carried { state, ..log })
+    log.state = held.answer.state;
+    held
 }
 
 // A packet call; the half-built length is that of a room.
 pub fn given(
     lines: &mut Lines,
     name: &[u8],
-    log: Carried,
+    mut log: Carried,
     time: u64,
     p: &[u8],
     room: usize,
 ) -> Carried
     ensures { PacketLeft (packet_call log.state time p.now log.counters log.memory least_capacity) result }
 {
-    let (held, after) = made_packet(log, time, p);
+    let held = made_packet(&mut log, time, p);
     show::text(lines, name);
     show::answer(lines, held.answer);
-    show::half(lines, after.state, room);
-    show::table(lines, &after.counters);
-    show::memory(lines, &after.memory);
+    show::half(lines, log.state, room);
+    show::table(lines, &log.counters);
+    show::memory(lines, &log.memory);
     show::text(lines, b"\n");
     show::events(lines, held.list, held.answer.n);
-    after
+    log
 }
 
 // The same of a packet of 188 bytes that begins with the given ones.
@@ -98,29 +98,31 @@ pub fn packet(
 }
 
 // A clock call.
-pub fn clock(lines: &mut Lines, name: &[u8], log: Carried, time: u64) -> Carried
+pub fn clock(lines: &mut Lines, name: &[u8], mut log: Carried, time: u64) -> Carried
     ensures { ClockLeft (clock_call log.state time log.memory least_capacity) log result }
 {
-    let (held, after) = made_clock(log, time);
+    let held = made_clock(&mut log, time);
     show::text(lines, name);
     show::answer(lines, held.answer);
     show::text(lines, b"\n");
     show::events(lines, held.list, held.answer.n);
-    after
+    log
 }
 
 // A packet call without a line.
-pub fn silent_packet(log: Carried, time: u64, p: &[u8]) -> Carried
+pub fn silent_packet(mut log: Carried, time: u64, p: &[u8]) -> Carried
     ensures { PacketLeft (packet_call log.state time p.now log.counters log.memory least_capacity) result }
 {
-    made_packet(log, time, p).1
+    made_packet(&mut log, time, p);
+    log
 }
 
 // A clock call without a line.
-pub fn silent_clock(log: Carried, time: u64) -> Carried
+pub fn silent_clock(mut log: Carried, time: u64) -> Carried
     ensures { ClockLeft (clock_call log.state time log.memory least_capacity) log result }
 {
-    made_clock(log, time).1
+    made_clock(&mut log, time);
+    log
 }
 
 // An opening.

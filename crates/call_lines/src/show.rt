@@ -6,7 +6,7 @@ use calls::{Answer, State};
 use events::{Event, LEAST_CAPACITY};
 use sections::MEMORY;
 use std::io;
-use std::io::{Stdout, Write};
+use std::io::{Print, Stdout, Write};
 
 // Where lines go. Behind a write that failed nothing more is written; `end` says why, and cannot be left out.
 pub struct Lines {
@@ -43,7 +43,7 @@ pub fn text(lines: &mut Lines, s: &[u8]) {
 
 // A space and a number.
 pub fn number(lines: &mut Lines, n: u64) {
-    lines.put(|out| write!(out, " {n}"));
+    lines.put(|out| out.print(format_args!(" {n}")));
 }
 
 // What the records hold before a call.
@@ -60,11 +60,10 @@ pub(crate) fn mark() -> Event
 
 // Stamp and cause decimal, fault and id four hex digits.
 fn event(lines: &mut Lines, e: Event) {
-    lines.put(|out| write!(
-        out,
+    lines.put(|out| out.print(format_args!(
         "  {} {:04x} {} {:04x}\n",
         e.stamp, e.fault, e.cause, e.id
-    ));
+    )));
 }
 
 // The first n records, and whether the others are untouched.
@@ -81,15 +80,15 @@ pub fn events(lines: &mut Lines, list: [Event; LEAST_CAPACITY], n: usize) {
 pub fn answer(lines: &mut Lines, a: Answer) {
     let s = a.state;
     let c = s.core;
-    lines.put(|out| write!(out, ": refusal {} n {}", a.refusal, a.n));
-    lines.put(|out| write!(out, " latest {} lost {}", s.latest, u8::from(c.lost)));
-    lines.put(|out| write!(out, " run {} count {}", c.run, c.count));
+    lines.put(|out| out.print(format_args!(": refusal {} n {}", a.refusal, a.n)));
+    lines.put(|out| out.print(format_args!(" latest {} lost {}", s.latest, u8::from(c.lost))));
+    lines.put(|out| out.print(format_args!(" run {} count {}", c.run, c.count)));
 }
 
 // The half-built length of a room.
 pub(crate) fn half(lines: &mut Lines, s: State, room: usize) {
     if let Some(n) = s.core.half.get(room) {
-        lines.put(|out| write!(out, " half {n}"));
+        lines.put(|out| out.print(format_args!(" half {n}")));
     }
 }
 
@@ -107,10 +106,10 @@ fn digest(s: &[u8]) -> u64 {
 
 // That of the counter table.
 pub fn table(lines: &mut Lines, s: &[u8]) {
-    lines.put(|out| write!(out, " table {:016x}", digest(s)));
+    lines.put(|out| out.print(format_args!(" table {:016x}", digest(s))));
 }
 
 // The same of section memory.
 pub fn memory(lines: &mut Lines, m: &[u8; MEMORY]) {
-    lines.put(|out| write!(out, " memory {:016x}", digest(m)));
+    lines.put(|out| out.print(format_args!(" memory {:016x}", digest(m))));
 }
