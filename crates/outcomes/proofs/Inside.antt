@@ -35,6 +35,7 @@ use Rattle.programmes.proofs.move_sections.Reads as move-sections
 use Rattle.payloads.proofs.take_payload.Reads as take-payload
 use Rattle.checks.proofs.none_half.Reads as none-half
 use Rattle.checks.proofs.rooms_sound.Reads as rooms-sound
+use Rattle.checks.proofs.U32FromRefusal.from.Reads as call_refusal_number
 use Rattle.checks.proofs.check_open.Reads as check-open
 use Rattle.checks.proofs.check_sizes.Reads as check-sizes
 use Rattle.checks.proofs.check_state.Reads as check-state
@@ -123,6 +124,7 @@ pub record NoSecondOutcomeInside : Type 0 where
       → OneOutcome (take-payload.Post κs) (λ r. r) (λ s. s.0.now ∷ s.1.0.now ∷ s.1.1.0.now ∷ s.1.1.1.1.1.1.1.1.0.now ∷ [])
   pub checks_none_half : (κs : _) → OneAnswer (none-half.Post κs) (λ r. r)
   pub checks_rooms_sound : (κs : _) → OneAnswer (rooms-sound.Post κs) (λ r. r)
+  pub checks_refusal_number : (κs : _) → OneAnswer (call_refusal_number.Post κs) (λ r. r)
   pub checks_check_open : (κs : _) → OneAnswer (check-open.Post κs) (λ r. r)
   pub checks_check_sizes : (κs : _) → OneAnswer (check-sizes.Post κs) (λ r. r)
   pub checks_check_state : (κs : _) → OneAnswer (check-state.Post κs) (λ r. r)
@@ -213,6 +215,7 @@ no_second_outcome_inside =
           );
       checks_none_half = λ κs a r r' s s' p q. both p q;
       checks_rooms_sound = λ κs a r r' s s' p q. both p q;
+      checks_refusal_number = λ κs a r r' s s' p q. both p q;
       checks_check_open = λ κs a r r' s s' p q. same_outcome r r' (both p q);
       checks_check_sizes = λ κs a r r' s s' p q. same_outcome r r' (both p q);
       checks_check_state = λ κs a r r' s s' p q. same_outcome r r' (both p q);

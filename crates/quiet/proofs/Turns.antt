@@ -14,6 +14,10 @@ use Rattle.arrays.proofs.Tabled.{part_all, part_tabled}
 use Rattle.std.specs.Prelude.{Some}
 use Rattle.quiet.specs.inner.Quiet.{gap_quiet, rows_quiet, entry_quiet, mark_of, entries_quiet, quiet_byte, glance_of}
 
+pub cond_same : (b : Bool) → b ≡ cond b true false
+cond_same true = refl
+cond_same false = refl
+
 -- the five gap starts, by name
 pub five_all : (l : List ℕ) → length l ≡ 5 → l ≡ get_or l 0 0 ∷ get_or l 1 0 ∷ get_or l 2 0 ∷ get_or l 3 0 ∷ get_or l 4 0 ∷ []
 unfolding tabled

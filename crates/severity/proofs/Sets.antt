@@ -1,14 +1,14 @@
 -- Every set of classes, by one computed test over all of them. Assumes nothing.
-use mathlib.Core.Path.{◌≡◌, refl}
+use mathlib.Core.Path.{◌≡◌, refl, ap}
 use mathlib.Core.Bool.{Bool, cond}
-use Prim.Native.Nat.{ℕ, ◌-◌, ◌^◌, ◌%◌, ◌*◌, ◌<◌}
+use Prim.Native.Nat.{ℕ, ◌-◌, ◌^◌, ◌%◌, ◌*◌, ◌<◌, ◌≤◌}
 use native.Mathlib.Omega.{arith}
 use lib.Dec.{ltb, eqb}
 use lib.Count.{ones, ones_in, count_leading_zeros}
-use borrow.Author.Tests.{eqb-true, ne_eqb, ltb-true}
+use borrow.Author.Tests.{eqb-true, ne_eqb, ltb-true, lt-ltb, le-ltb}
 use Rattle.lists.proofs.Tests.{cond_either}
 use Rattle.lists.proofs.Table.{passes_at}
-use Rattle.severity.specs.Severity.{class_count, worst_of, set_for, row_for}
+use Rattle.severity.specs.Severity.{class_count, worst_of, set_for, row_for, answer_for, refused, severity_of}
 
 -- the class that the leading zeros of a set of 32 digits name, or 0 where all are zeros
 abbrev by_zeros : ℕ → ℕ
@@ -45,3 +45,12 @@ set_lt kind gap h =
     (ltb-true r.set 32 (passes_at within 6 refl kind h))
     (cond_either (λ s. s < 32) (ltb r.qos gap) 3 (cond (ltb r.tnc gap) 1 0) (omega arith)
     (cond_either (λ s. s < 32) (ltb r.tnc gap) 1 0 (omega arith) (omega arith)))
+
+-- THE CALL, by its kind
+pub severity_listed : (kind gap : ℕ) → kind < 6 → severity_of kind gap ≡ answer_for (set_for (row_for kind) gap)
+unfolding severity_of
+severity_listed kind gap h = ap (λ b. cond b (answer_for (set_for (row_for kind) gap)) refused) (lt-ltb kind 6 h)
+
+pub severity_unlisted : (kind gap : ℕ) → 6 ≤ kind → severity_of kind gap ≡ refused
+unfolding severity_of
+severity_unlisted kind gap h = ap (λ b. cond b (answer_for (set_for (row_for kind) gap)) refused) (le-ltb kind 6 h)

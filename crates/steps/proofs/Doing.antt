@@ -130,7 +130,7 @@ module _ (t : ℕ) (p : List ℕ) (r : ℕ) (keep : Bool) (cs : List ℕ) (h : H
   abbrev left : Held
   left = cond keep h (dropped_room r h)
 
-  left_out : (take : Bool) → take ≡ false → quiet left cs ≡ coursed t p r keep take cs h
+  pub left_out : (take : Bool) → take ≡ false → quiet left cs ≡ coursed t p r keep take cs h
   left_out take e = rw e
 
   pub taken_in : (take : Bool) → take ≡ true
@@ -138,7 +138,7 @@ module _ (t : ℕ) (p : List ℕ) (r : ℕ) (keep : Bool) (cs : List ℕ) (h : H
   taken_in take e = rw e
 
 -- the core after step 4
-kept_held : (b : Bool) (c : Core) (m : List ℕ) (r : ℕ)
+pub kept_held : (b : Bool) (c : Core) (m : List ℕ) (r : ℕ)
     → held (cond b c (with_half (set c.half r 0) c)) m ≡ cond b (held c m) (dropped_room r (held c m))
 kept_held true c m r = refl
 kept_held false c m r = refl
@@ -178,7 +178,7 @@ module _ (t : ℕ) (p cs : List ℕ) (c : Core) (j : Counted) (verdict : j ≡ c
   counter_clear e = ap (also (continuity_events t (pid_of p) j.event)) (sym (clear_ends t p counter_table c m j.take j.keep e)) ∙ ap from verdict
 
 -- STEP 1
-lost_is : (right : Bool) (c : Core) → c.lost ≡ true → synced_of right c ≡ while_lost right c
+pub lost_is : (right : Bool) (c : Core) → c.lost ≡ true → synced_of right c ≡ while_lost right c
 lost_is right c e = ap (λ b. cond b (while_lost right c) (in_sync right c)) e
 
 pub in_sync_is : (right : Bool) (c : Core) → c.lost ≡ false → synced_of right c ≡ in_sync right c
@@ -190,7 +190,7 @@ caught_as {t = t} {pid = pid} {c = c} {on = on} {before = before} {n = n} {after
     subst (λ y. CaughtAs y t pid c on before n after r) e d
 
 -- while sync is lost there are no events
-lost_silent : (right : Bool) (c : Core) → (while_lost right c).faults ≡ []
+pub lost_silent : (right : Bool) (c : Core) → (while_lost right c).faults ≡ []
 lost_silent true c = cond_either (λ (y : Synced). y.faults ≡ []) (eqb c.run 4) _ _ refl refl
 lost_silent false c = refl
 
