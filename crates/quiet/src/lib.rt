@@ -66,8 +66,8 @@ fn entry_quiet(e: Entry, p: u64, t: u64, q: u16) -> bool
 }
 
 // Whether the listed entries are, with no two numbers of the same remainder. `entries_sound` of checks, beside it, goes backwards and
-// searches where two are. Not in line, for speed: within the packet call the loop's ways out are far, its code is a third longer, and
-// sixteen programmes take a tenth to a fifth more time.
+// searches where two are. Not in line, for speed: within the packet call the loop's ways out are far jumps, and sixteen programmes
+// take about a seventh more time.
 #[inline(never)]
 fn entries_quiet<S: Standing>(standing: &S, count: usize, p: u64, t: u64, q: u16) -> bool
     requires { count ≤ most_listed }
